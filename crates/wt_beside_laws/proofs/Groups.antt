@@ -5,6 +5,7 @@ pub mod GivenTiles
 pub mod GivenParts
 pub mod GivenMeets
 pub mod GivenNodes
+pub mod RoundNodes
 mod StyleCases
 pub mod Gifts
 pub mod CalledTiles

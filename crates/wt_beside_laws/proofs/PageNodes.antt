@@ -131,8 +131,13 @@ table_leads r Node own n e = tt
 
 -- ---- two nodes side by side
 
+-- that give these
+abbrev pub MeetBy : Thing → List Glyph → Thing → List Glyph → Type 0
+MeetBy t left n right = MayFollow t.role left right × MayLead n.role (ends_word false left)
+
+-- each by its source
 abbrev pub Meet : Thing → Thing → Type 0
-Meet t n = MayFollow t.role (own_glyphs t) (own_glyphs n) × MayLead n.role (ends_word false (own_glyphs t))
+Meet t n = MeetBy t (own_glyphs t) n (own_glyphs n)
 
 -- if they are so in the page
 abbrev pub MeetInPage : Thing → Thing → Type 0
@@ -172,34 +177,35 @@ by_table false false true true q e z = cc
 by_table false false true false q e z = cc
 by_table false false false p q e z = refl
 
-table_meets : (t n : Thing) → IsNode t.role (own_glyphs t) → IsNode n.role (own_glyphs n) → (is_mark t.role && is_mark n.role) ≡ false → is_adjacent t n ≡ false
-    → is_parted t n ≡ false → Meet t n
+table_meets : (t n : Thing) (left right : List Glyph) → IsNode t.role left → IsNode n.role right → (is_mark t.role && is_mark n.role) ≡ false → is_adjacent t n ≡ false
+    → is_parted t n ≡ false → MeetBy t left n right
 unfolding is_parted
-table_meets t n own other both e z =
+table_meets t n left right own other both e z =
     let at : (if is_function n.role && has_brace_last t.source then true else if is_mark t.role && is_mark n.role then not (ends_line t.role) && not (is_adjacent t n)
     else hazard (left_side t.role) (side_of n.role) && (is_always_parted t.role n.role || not false)) ≡ false =
     ap (λ (v : Bool). if is_function n.role && has_brace_last t.source then true else if is_mark t.role && is_mark n.role then not (ends_line t.role) && not (is_adjacent t n)
     else hazard (left_side t.role) (side_of n.role) && (is_always_parted t.role n.role || not v)) (sym e) ∙ z in
     let none : hazard (left_side t.role) (side_of n.role) ≡ false =
     by_table (is_function n.role && has_brace_last t.source) (is_mark t.role && is_mark n.role) (hazard (left_side t.role) (side_of n.role)) (is_always_parted t.role n.role) _ both at in
-    (table_follows t.role n.role (own_glyphs t) (own_glyphs n) own other none, table_leads t.role n.role (own_glyphs t) own none)
+    (table_follows t.role n.role left right own other none, table_leads t.role n.role left own none)
 
 -- beside a mark another one may be
-meet_apart : (t n : Thing) → IsNode t.role (own_glyphs t) → IsNode n.role (own_glyphs n) → is_adjacent t n ≡ false → is_parted t n ≡ false → Meet t n
-meet_apart t n own other e z = by (is_mark t.role && is_mark n.role) refl
+pub meet_apart : (t n : Thing) (left right : List Glyph) → IsNode t.role left → IsNode n.role right → is_adjacent t n ≡ false → is_parted t n ≡ false
+    → MeetBy t left n right
+meet_apart t n left right own other e z = by (is_mark t.role && is_mark n.role) refl
   where
-    by : (v : Bool) → (is_mark t.role && is_mark n.role) ≡ v → Meet t n
+    by : (v : Bool) → (is_mark t.role && is_mark n.role) ≡ v → MeetBy t left n right
     by true i =
         let marks = are_both (is_mark t.role) (is_mark n.role) i in
-        (mark_follows t.role (own_glyphs t) (own_glyphs n) marks.0, mark_led n.role (ends_word false (own_glyphs t)) marks.1)
-    by false i = table_meets t n own other i e z
+        (mark_follows t.role left right marks.0, mark_led n.role (ends_word false left) marks.1)
+    by false i = table_meets t n left right own other i e z
 
 pub meet : (t n : Thing) → IsNode t.role (own_glyphs t) → IsNode n.role (own_glyphs n) → MeetInPage t n → is_parted t n ≡ false → Meet t n
 meet t n own other page z = meet_by (is_adjacent t n) refl
   where
     meet_by : (v : Bool) → is_adjacent t n ≡ v → Meet t n
     meet_by true e = page e
-    meet_by false e = meet_apart t n own other e z
+    meet_by false e = meet_apart t n (own_glyphs t) (own_glyphs n) own other e z
 
 -- ---- all of a content
 

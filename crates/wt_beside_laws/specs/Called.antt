@@ -34,6 +34,7 @@ use Rattle.wt_beside_laws.specs.InHeadings.{AreOnOneLine}
 use Rattle.wt_beside_laws.specs.Lines.{AreCharacters}
 use Rattle.wt_beside_laws.specs.NodeItems.{node_items}
 use Rattle.wt_beside_laws.specs.Nodes.{IsNode, OpensNoPair, IsBeforeQuotes, MayFollow, MayLead}
+use Rattle.wt_beside_laws.specs.RoundCalls.{IsRoundCalls, AreShutCalls}
 use Rattle.wt_beside_laws.specs.Shown.{parts_shown_at}
 use Rattle.wt_beside_laws.specs.Stood.{things}
 
@@ -125,10 +126,10 @@ AreGiven (letter c ∷ after) owns = AreGiven after owns
 AreGiven (thing t ∷ after) [] = ⊥
 AreGiven (thing t ∷ after) (own ∷ owns) = IsGivenAs t.role t own × AreGiven after owns
 
--- what each is on a line by itself is characters, and nodes of the page or of a call, of which none is empty
+-- What each is on a line by itself: characters, and nodes of the page or of a call, of which none is empty; or a node of the page round calls.
 abbrev pub AreOwnInside : List (List Item) → Type 0
 AreOwnInside [] = Unit {0}
-AreOwnInside (own ∷ owns) = AreOwnOrGiven (line_parts own) × AreOwnInside owns
+AreOwnInside (own ∷ owns) = (AreOwnOrGiven (line_parts own) ⊎ IsRoundCalls own) × AreOwnInside owns
 
 -- ---- two side by side, by what they give
 
@@ -259,16 +260,24 @@ pub record StaysAsItIs (pages : Pages) (t : Thing) : Type 0 where
   pub unbroken : IsUnbroken (node_items t.source)
   pub own : AreSomeOfPage (line_parts (node_items t.source))
 
+-- Or it is a node of the page, on one line, round calls, of which none ends in an open tag, however many calls come before it.
+pub record StaysRound (pages : Pages) (t : Thing) : Type 0 where
+  pub flat : IsFlat t.role
+  pub node : (i : ℕ) → IsOwnNode t (numbered i (page_stretches pages t.source))
+  pub round : (i : ℕ) → IsRoundCalls (numbered i (page_stretches pages t.source))
+  pub calls : AreShutCalls (expanded_page pages t.source).outer
+
+-- a link or a pair of tags may be round calls
 abbrev pub IsOfFolder : Role → Pages → Thing → Type 0
-IsOfFolder Link pages t = StaysAsItIs pages t
-IsOfFolder External pages t = StaysAsItIs pages t
+IsOfFolder Link pages t = StaysAsItIs pages t ⊎ StaysRound pages t
+IsOfFolder External pages t = StaysAsItIs pages t ⊎ StaysRound pages t
 IsOfFolder (Bare ends) pages t = StaysAsItIs pages t
 IsOfFolder Switch pages t = StaysAsItIs pages t
 IsOfFolder Toggle pages t = StaysAsItIs pages t
 IsOfFolder (Mark ends began) pages t = StaysAsItIs pages t
 IsOfFolder (Group g) pages t = GivesGroup pages g t.source
 IsOfFolder Function pages t = StaysAsItIs pages t
-IsOfFolder Node pages t = StaysAsItIs pages t
+IsOfFolder Node pages t = StaysAsItIs pages t ⊎ StaysRound pages t
 
 abbrev pub AreOfFolder : Pages → List ContentSign → Type 0
 AreOfFolder pages [] = Unit {0}

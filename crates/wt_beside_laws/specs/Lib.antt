@@ -37,6 +37,7 @@ pub mod StyledBlocks
 pub mod NewStyles
 pub mod StyledIn
 pub mod SpelledApart
+pub mod RoundCalls
 pub mod Called
 pub mod Given
 pub mod StyledCalls

@@ -7,8 +7,6 @@ use Rattle.wt_guards.specs.Content.{ContentSign, Thing, is_group, letter, thing}
 use Rattle.wt_guards.specs.Guards.{Setting, is_guarded}
 use Rattle.wt_guards.specs.Letters.{is_escaped}
 use Rattle.wt_tree.specs.EditShapes.{edit_shape}
-use Rattle.wt_tree.specs.declared.edit_shape.InlineForm.{InlineForm}
-use Rattle.wt_tree.specs.declared.edit_shape.InlineForm.TheVariants as inline
 use Rattle.wt_tree.specs.declared.edit_shape.Place.TheVariants as place
 use Rattle.wt_inline.specs.ItemTree.{inner}
 use Rattle.wt_inline.specs.Parts.{Part, loose, node, parts}
@@ -20,6 +18,7 @@ use Rattle.wt_beside_laws.specs.Content.{guard_items, letter_items}
 use Rattle.wt_beside_laws.specs.InHeadings.{AreOnOneLine}
 use Rattle.wt_beside_laws.specs.Lines.{AreCharacters}
 use Rattle.wt_beside_laws.specs.Nests.{style_tree}
+use Rattle.wt_beside_laws.specs.RoundCalls.{IsUnstyledForm, IsRoundCalls}
 use Rattle.wt_beside_laws.specs.Shown.{parts_shown_at}
 use Rattle.wt_beside_laws.specs.Styled.{AreNested, StyledContent, delimiter, finished, sign, signs_before, signs_in, signs_past, styled}
 use Rattle.wt_beside_laws.specs.StyledShown.{style_shown}
@@ -58,27 +57,19 @@ styled_with line s before (styled bold opening closing inside t) after owns =
 -- ---- the nodes
 
 -- no node of them is bold or italic
-abbrev pub IsUnstyledForm : InlineForm → Type 0
-IsUnstyledForm inline.Nothing = Unit {0}
-IsUnstyledForm inline.Characters = Unit {0}
-IsUnstyledForm inline.Bold = ⊥
-IsUnstyledForm inline.Italic = ⊥
-IsUnstyledForm inline.Shown = Unit {0}
-IsUnstyledForm inline.PageLink = Unit {0}
-IsUnstyledForm inline.ExternalLink = Unit {0}
-IsUnstyledForm inline.Tag = Unit {0}
-IsUnstyledForm inline.Break = Unit {0}
-IsUnstyledForm inline.AsItStood = Unit {0}
-
 abbrev pub AreUnstyledParts : List Part → Type 0
 AreUnstyledParts [] = Unit {0}
 AreUnstyledParts (loose k o b ∷ ps) = AreUnstyledParts ps
 AreUnstyledParts (node (inner h opening ts closing) ∷ ps) = IsUnstyledForm (edit_shape h.kind).inline × AreUnstyledParts ps
 
+-- something of the page, or a node of it round calls
+abbrev pub IsOfPage : List Item → Type 0
+IsOfPage own = AreSomeOfPage (line_parts own) ⊎ IsRoundCalls own
+
 -- On a line by itself: what a call gives, or something of the page. In a style a call gives no bold or italic of its own.
 abbrev pub IsOwnAt : Bool → Thing → List Item → Type 0
-IsOwnAt true x own = ((is_group x.role ≡ true) × AreOwnOrGiven (line_parts own) × AreUnstyledParts (line_parts own)) ⊎ AreSomeOfPage (line_parts own)
-IsOwnAt false x own = ((is_group x.role ≡ true) × AreOwnOrGiven (line_parts own)) ⊎ AreSomeOfPage (line_parts own)
+IsOwnAt true x own = ((is_group x.role ≡ true) × AreOwnOrGiven (line_parts own) × AreUnstyledParts (line_parts own)) ⊎ IsOfPage own
+IsOwnAt false x own = ((is_group x.role ≡ true) × AreOwnOrGiven (line_parts own)) ⊎ IsOfPage own
 
 -- of all nodes, delimiters apart; these are in a style, or else only some are
 abbrev pub AreOwnAt : Bool → StyledContent → List (List Item) → Type 0

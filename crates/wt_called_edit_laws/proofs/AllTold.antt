@@ -29,6 +29,7 @@ pub mod Alone
 pub mod OneNode
 pub mod ClosedBlocks
 pub mod NodeTexts
+pub mod NoPairs
 pub mod Complete
 pub mod AllAlone
 pub mod CallingStarts

@@ -17,3 +17,6 @@ pub mod CallingCases
 pub mod CalmLines
 pub mod ToldAmong
 pub mod ToldCases
+pub mod NoCallRuns
+pub mod RunBraces
+mod BehindCases

@@ -1,6 +1,7 @@
 -- What is sent for paragraphs with calls in them, and what it makes.
 pub mod Counts
 pub mod Found
+pub mod GroupsFound
 pub mod Holding
 pub mod Sent
 pub mod Uncalled
@@ -13,4 +14,6 @@ pub mod FirstCases
 mod LastCases
 pub mod BothCases
 mod LinkCases
+pub mod RoundCases
+mod RoundPageCases
 mod EmptyCases

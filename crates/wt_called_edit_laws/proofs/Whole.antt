@@ -3,6 +3,7 @@ pub mod CallPlaces
 pub mod OfCall
 pub mod InSlice
 pub mod Opened
+pub mod SourcesAt
 pub mod PartsIn
 pub mod Pieces
 pub mod Blocks

@@ -5,7 +5,7 @@ use Rattle.wt_span.specs.Origins.{Expanded}
 use Rattle.wt_tree.specs.Source.{flat}
 use Rattle.wt_tree.specs.Tiling.{HasNoGroup}
 use Rattle.wt_tree.specs.Tree.{Tree, tree, Trees, none, more, label}
-use Rattle.wt_annotated.specs.Seams.{last_of, text_from}
+use Rattle.wt_annotated.specs.Seams.{text_from}
 use Rattle.wt_expand.specs.PageCalls.{expanded_page}
 use Rattle.wt_expand.specs.Work.{Pages}
 use Rattle.wt_lines.specs.Lines.{content, full_lines}
@@ -14,7 +14,7 @@ use Rattle.wt_page.specs.Lines.{ending}
 use Rattle.wt_page.specs.Rows.{Row, rows_from}
 use Rattle.wt_selser.specs.Edits.{is_tangled}
 use Rattle.wt_text_edit_laws.specs.BodyParagraphs.{EndWhole}
-use Rattle.wt_text_edit_laws.specs.NoCalls.{CallsNothing}
+use Rattle.wt_text_edit_laws.specs.SignParts.{IsLedTo}
 use Rattle.wt_text_edit_laws.specs.Unclosed.{holds_unclosed}
 use Rattle.wt_called_edit_laws.specs.ContentsTaken.{TakesContents}
 use Rattle.wt_called_edit_laws.specs.Groups.{called_tree}
@@ -43,10 +43,10 @@ pub data IsExceptedAt (ls : List (List Item)) (at : ℕ) : Type 0 where
   text_on_a_sign : (before : List Row) (first : Row) (others behind : List Row) → rows_from 0 ls ≡ before ++ ((first ∷ others) ++ behind)
       → (EndWhole before → ⊥) → at ≡ begins_behind before first → IsExceptedAt ls at
 
--- Behind these items neither the line break before a block's lines, nor the marks that begin them, nor the line break that ends them comes from a call.
-pub record IsBesideNoCall (front : List Item) (t : Told) : Type 0 where
-  pub ends : last_of None front ≡ None
-  pub marks : AreOfPage (lined t).marks
+-- Behind these items and the marks that begin a block's lines the page is ended for it: by a line break, a comment or a tag, or by the end of a call, where
+-- no `<` is behind the last `>` and the last line break and the block begins with no `}`. And the line break behind it comes from no call.
+pub record IsBesideNoCall (e : Expanded) (front : List Item) (t : Told) : Type 0 where
+  pub led : IsLedTo (text_from e.outer None (front ++ (lined t).marks)) (lined t).block (lined t).text
   pub ending : AreOfPage (ending (joined ((lined t).first ∷ (lined t).more)))
 
 -- none of them is a function that is kept
@@ -54,22 +54,20 @@ abbrev pub AreNoFunctions : List Item → Type 0
 AreNoFunctions [] = Unit {0}
 AreNoFunctions (x ∷ xs) = IsNoFunction x × AreNoFunctions xs
 
--- no call that is text has a byte of a block's lines behind these items
+-- no call that is text has a byte of a block's lines behind these items and the marks that begin them
 abbrev pub IsBesideTexts : Expanded → List Item → Told → Type 0
 IsBesideTexts e front t =
-    let from = length (text_from e.outer None front) in
-    AreBeside from (from + length (sources ((lined t).marks ++ joined ((lined t).first ∷ (lined t).more)))) e.text_calls
+    let from = length (text_from e.outer None (front ++ (lined t).marks)) in
+    AreBeside from (from + length (sources (joined ((lined t).first ∷ (lined t).more)))) e.text_calls
 
--- So of an expanded page: one of these by its lines; or a block for which a call gives the line break before or behind it, or which has one on its line
--- that gives nothing; or in which a function is kept; or that has two braces that open before two that close (no page may have one of these, unproved).
+-- So of an expanded page: one of these by its lines; or a block for which a call gives the line break behind it, or directly behind a call, if it begins
+-- with a `}`, or the call has a `<` on its last line that no `>` follows; or in which a function is kept.
 pub data IsExceptedIn (e : Expanded) (at : ℕ) : Type 0 where
   by_its_lines : IsExceptedAt (full_lines e.items) at → IsExceptedIn e at
   beside_a_call : (t : Told) (behind : List (List Item)) → full_lines e.items ≡ all_lines (lined t ∷ []) behind → AreTold (t ∷ []) behind → at ≡ start_of 0 t
-      → (IsBesideNoCall (joined (lined t).before) t → ⊥) → IsExceptedIn e at
+      → (IsBesideNoCall e (joined (lined t).before) t → ⊥) → IsExceptedIn e at
   holds_a_function : (t : Told) (behind : List (List Item)) → full_lines e.items ≡ all_lines (lined t ∷ []) behind → AreTold (t ∷ []) behind → at ≡ start_of 0 t
       → (AreNoFunctions (content (joined ((lined t).first ∷ (lined t).more))) → ⊥) → IsExceptedIn e at
-  holds_a_pair : (t : Told) (behind : List (List Item)) → full_lines e.items ≡ all_lines (lined t ∷ []) behind → AreTold (t ∷ []) behind → at ≡ start_of 0 t
-      → (CallsNothing (content (joined ((lined t).first ∷ (lined t).more))) → ⊥) → IsExceptedIn e at
 
 -- a node of a page's tree that begins so
 pub record IsExcepted (pages : Pages) (page : List ℕ) (t : Tree) : Type 0 where

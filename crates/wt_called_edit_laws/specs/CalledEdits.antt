@@ -1,11 +1,10 @@
 -- A paragraph or heading of the page with calls in it, for which one with other texts beside these calls is sent: what is written for it.
-use Rattle.std.specs.Prelude.{◌≡◌, ◌⊎◌, ℕ, true, false, None, List, []}
+use Rattle.std.specs.Prelude.{◌≡◌, ℕ, false, None, List, []}
 use Rattle.wt_tree.specs.declared.edit_shape.Place.TheVariants as place
 use Rattle.wt_tree.specs.EditShapes.{edit_shape}
 use Rattle.wt_tree.specs.Plain.{Plains, plain_before}
 use Rattle.wt_tree.specs.Source.{flat}
-use Rattle.wt_tree.specs.Tiling.{is_group, HasNoGroup}
-use Rattle.wt_tree.specs.Tree.{Label, Tree, tree, Trees, none, more, label}
+use Rattle.wt_tree.specs.Tree.{Label, Tree, Trees, none, more, label}
 use Rattle.wt_span.specs.Origins.{OuterCall}
 use Rattle.wt_guards.specs.Content.{Thing}
 use Rattle.wt_guards.specs.Guards.{Setting}
@@ -48,18 +47,13 @@ use Rattle.wt_called_edit_laws.specs.WrittenAnew.{StayButForOthers, HoldsAnywher
 abbrev pub page_things : Tree → List Thing
 page_things block = things_with (kept_nodes block) (all_numbers (children_of block))
 
--- it is a group, or none is in it
-abbrev pub IsGroupOrFree : Tree → Type 0
-IsGroupOrFree (tree l ts) = (is_group l.kind ≡ true) ⊎ HasNoGroup (tree l ts)
-
 -- it shows what its source shows in this folder by itself, however many calls come before it
 abbrev pub ShowsAsGiven : Pages → Tree → Type 0
 ShowsAsGiven pages t = (i : ℕ) (rest : Plains) → parts_shown_at 0 [] (line_parts (part_items pages i (flat t))) rest ≡ plain_before t rest
 
--- an inline node of such a block: a text, a group, or another node without groups
+-- an inline node of such a block: a text, a group, or another node, in which groups may be
 pub record IsChildBeside (pages : Pages) (t : Tree) : Type 0 where
   pub inline : is_block_part (label t).kind ≡ false
-  pub free : IsGroupOrFree t
   pub shows : IsNodeForm (edit_shape (label t).kind).inline → ShowsAsGiven pages t
 
 abbrev pub AreChildrenBeside : Pages → Trees → Type 0

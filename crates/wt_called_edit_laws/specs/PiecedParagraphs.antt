@@ -5,6 +5,7 @@ use Rattle.std.specs.Str.{IsUtf8}
 use Rattle.wt_tree.specs.Plain.{Plains}
 use Rattle.wt_span.specs.Bytes.{is_blank}
 use Rattle.wt_span.specs.Items.{Item, sign}
+use Rattle.wt_span.specs.Origins.{OuterCall}
 use Rattle.wt_guards.specs.declared.role.Transclusion.{Transclusion}
 use Rattle.wt_guards.specs.Content.{Thing}
 use Rattle.wt_inline.specs.declared.loose.Loose.TheVariants.{Text}
@@ -19,7 +20,7 @@ use Rattle.wt_part_laws.specs.CallPieces.{AreOwnOrGiven, CallPiece, own, given, 
 use Rattle.wt_part_laws.specs.Expanded.{part_items, calls_in}
 use Rattle.wt_text_edit_laws.specs.Contents.{content_parts_of}
 use Rattle.wt_text_edit_laws.specs.ReadContents.{IsReadContent}
-use Rattle.wt_text_edit_laws.specs.TextBlocks.{a_paragraph, a_heading}
+use Rattle.wt_text_edit_laws.specs.TextBlocks.{a_paragraph, a_heading, source_of}
 use Rattle.wt_text_edit_laws.specs.TypedHeadings.{Sides, EndsWithout, is_equals_sign}
 use Rattle.wt_beside_laws.specs.Called.{GivesGroup, AllSeenIn}
 use Rattle.wt_beside_laws.specs.FlatBlocks.{IsSealed}
@@ -27,6 +28,7 @@ use Rattle.wt_beside_laws.specs.Shown.{parts_shown_at}
 use Rattle.wt_called_edit_laws.specs.CalledContents.{AreTextItems, AreHeadingItems}
 use Rattle.wt_called_edit_laws.specs.InPieces.{pieces_source, AreInPieces}
 use Rattle.wt_called_edit_laws.specs.PageThings.{ArePageThings, thing_sources}
+use Rattle.wt_called_edit_laws.specs.PartTexts.{AreSourcesAt}
 use Rattle.wt_called_edit_laws.specs.WholeContents.{AreGroups, ArePartsIn, AreShutParts}
 use Rattle.wt_called_edit_laws.specs.Written.{IsCallSource, BeginsOutward, EndsOutward, IsOwnPart}
 use Rattle.wt_called_edit_laws.specs.WrittenAnew.{StayButForOthers}
@@ -50,7 +52,8 @@ pub record IsInPieces (pages : Pages) (q : List ℕ) : Type 0 where
   pub among : StayButForOthers pages pieces (thing_sources nodes)
   pub read : IsReadContent a_paragraph q
   pub lines : (i : ℕ) → AreTextItems (part_items pages i q)
-  pub texts : (i : ℕ) → ArePartsIn (part_items pages i q) (content_parts_of a_paragraph (part_items pages i q))
+  pub texts : (calls : List OuterCall) (i : ℕ) → AreSourcesAt calls i (expanded_page pages q).outer
+      → ArePartsIn calls (part_items pages i q) (content_parts_of a_paragraph (part_items pages i q))
   pub groups : (i : ℕ) → AreGroups (part_items pages i q) (call_pieces (children (content_parts_of a_paragraph (part_items pages i q))))
   pub shut : (i : ℕ) → AreShutParts (content_parts_of a_paragraph (part_items pages i q))
   pub some : (i : ℕ) → HasOwn (content_parts_of a_paragraph (part_items pages i q))
@@ -66,7 +69,8 @@ pub record IsHeadingInPieces (pages : Pages) (s : Sides) (q : List ℕ) : Type 0
   pub seen : AllSeenIn pages nodes
   pub read : IsReadContent (a_heading s) q
   pub line : (i : ℕ) → AreHeadingItems s (part_items pages i q)
-  pub texts : (i : ℕ) → ArePartsIn (part_items pages i q) (content_parts_of (a_heading s) (part_items pages i q))
+  pub texts : (calls : List OuterCall) (i : ℕ) → AreSourcesAt calls i (expanded_page pages (source_of (a_heading s) q)).outer
+      → ArePartsIn calls (part_items pages i q) (content_parts_of (a_heading s) (part_items pages i q))
   pub groups : (i : ℕ) → AreGroups (part_items pages i q) (call_pieces (children (content_parts_of (a_heading s) (part_items pages i q))))
   pub shut : (i : ℕ) → AreShutParts (content_parts_of (a_heading s) (part_items pages i q))
 

@@ -96,9 +96,9 @@ pub fn told_blocks_are_told_together()
 
 /// So each paragraph and heading of such a page's tree that is outside of groups, holds none and isn't tangled, and holds no mark
 /// that nothing ends, may be edited at its path, which is one of those of blocks that the lines tell; but for these: text behind
-/// the sign of a table's end or a rule on its line; a block for which a call gives the line break before or behind it, or which
-/// has one before it on its line that gives nothing (`beside_a_call`); one in which a function is kept (`holds_a_function`); and the
-/// others of `IsExceptedIn`.
+/// the sign of a table's end or a rule on its line; a block for which a call gives the line break behind it, or which is directly
+/// behind a call, if it begins with a `}` or the call has a `<` on its last line that no `>` follows (`beside_a_call`); one in which
+/// a function is kept (`holds_a_function`); and the others of `IsExceptedIn`.
 pub fn each_block_is_told_or_excepted()
     ensures all { (pages : Pages) (page : List ℕ) → IsUtf8 page → refusal_of_page pages page ≡ None → AllBlocksTold pages page }
 {}

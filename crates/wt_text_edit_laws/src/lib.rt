@@ -277,8 +277,8 @@ pub fn groups_of_plain_text_have_no_fault()
 /// Of lines in which each comment, raw tag and hidden part ends that begins in them, every lexeme is read of them
 /// alone, whatever follows them: none goes over their end. So it is where a raw tag has no closing tag, neither in
 /// them nor in what follows, and where comments or tags come after the last line break, before what doesn't begin with
-/// a line of comments and blanks. Where the sign of a table's end or a rule comes last, what follows on its line is read
-/// by itself, if it doesn't begin with a `}`.
+/// a line of comments and blanks. Where the sign of a table's end or a rule comes last, or the end of a call on whose last line
+/// no `<` is behind the last `>`, what follows on its line is read by itself, if it doesn't begin with a `}`.
 #[tactic(auto, using(crate::proofs::Between::LineForms::lines_settle, crate::proofs::Between::LineForms::marks_settle, crate::proofs::Blocks::SignReading::signed_items))]
 pub fn lines_end_lexemes()
     ensures lines { (rest q : List ℕ) → AreWholeLines q → HasEndsBefore rest q → Settles (lexer Page) rest false 0 q }

@@ -1,7 +1,7 @@
 -- A paragraph of texts beside calls holds these: each is a group in it, and the letters are the page's own.
-use Rattle.std.proofs.Common.{arith, ◌≡◌, ℕ, ◌<◌, Bool, true, false, List, [], ◌∷◌, ◌++◌, length, inl, refl, sym, ap, ◌∙◌, subst, append-nil}
+use Rattle.std.proofs.Common.{arith, ◌≡◌, ℕ, ◌<◌, Bool, true, false, List, [], ◌∷◌, ◌++◌, length, inl, inr, refl, sym, ap, ◌∙◌, subst, append-nil}
 use Rattle.std.specs.Prelude.{◌||◌, encode_utf8}
-use Rattle.std.specs.List.{list_any}
+use Rattle.std.specs.List.{list_all, list_any}
 use Rattle.std.proofs.lemmas.List.Folds.{list_any-append}
 use Rattle.wt_names.proofs.Ascii.{encode_some}
 use Rattle.wt_tree.specs.declared.kind.Kind.TheVariants as kind
@@ -12,22 +12,25 @@ use Rattle.wt_guards.specs.Guards.{Setting, is_guarded}
 use Rattle.wt_guards.specs.Letters.{is_escaped}
 use Rattle.wt_lines.specs.Lines.{lines}
 use Rattle.wt_inline.specs.declared.loose.Loose.TheVariants.{Text, Sep}
-use Rattle.wt_inline.specs.ItemTree.{plain, forest, tree_items, held_by_all}
+use Rattle.wt_inline.specs.ItemTree.{plain, ItemTree, forest, tree_items, held_by_all}
 use Rattle.wt_inline.specs.Parts.{Part, loose, node, held_parts, parts, children}
 use Rattle.wt_inline.proofs.HeldLaws.{held_children, held_append}
 use Rattle.wt_context.specs.Line.{line_parts}
 use Rattle.wt_annotated.specs.Clean.{is_no_call, is_page}
-use Rattle.wt_part_laws.specs.CallPieces.{AreOwnOrGiven}
+use Rattle.wt_part_laws.specs.CallPieces.{IsPieceNode, EachNode, ArePieceNodes, AreOwnOrGiven}
 use Rattle.wt_part_laws.specs.HeldCalls.{block_in, HoldsItsCalls, IsRoundGiven, block_of_pieces}
-use Rattle.wt_part_laws.proofs.CallPieces.{as_pieces}
+use Rattle.wt_part_laws.proofs.CallPieces.{as_pieces, round_some}
 use Rattle.wt_part_laws.proofs.HeldBlocks.{given_hold, given_block_is}
 use Rattle.wt_part_laws.proofs.OwnWalks.{has_page}
 use Rattle.wt_text_edit_laws.specs.LonePages.{page_chars}
 use Rattle.wt_text_edit_laws.specs.ParagraphParts.{joined_parts, para_with}
 use Rattle.wt_beside_laws.specs.Called.{items_with, parts_with, ArePageParts, AreSomeOfPage, AreOwnInside, IsCalledContent}
 use Rattle.wt_beside_laws.specs.Content.{guard_items, letter_items}
+use Rattle.wt_beside_laws.specs.RoundCalls.{IsRoundDeep, IsRoundCalls}
 use Rattle.wt_beside_laws.proofs.Made.Items.{PartsHave, guard_has, letter_has}
 use Rattle.wt_beside_laws.proofs.Groups.CalledParagraphs.{called_parts}
+use Rattle.wt_beside_laws.proofs.Groups.GivenNodes.{IsShownAlike, as_shown}
+use Rattle.wt_beside_laws.proofs.Groups.RoundNodes.{deep_round, round_alike}
 
 -- ---- its parts
 
@@ -59,19 +62,47 @@ guard_own u = page_given (parts Text (guard_items u)) (guard_parts u)
 pub letter_own : (e : Bool) (c : ℕ) → AreOwnOrGiven (parts Text (letter_items e c))
 letter_own e c = page_given (parts Text (letter_items e c)) (letter_parts e c)
 
-pub parts_own : (s : Setting) (before signs : List ContentSign) (owns : List (List Item)) → AreOwnInside owns → AreOwnOrGiven (parts_with s before signs owns)
-parts_own s before [] owns h = guard_own (is_guarded s before [])
-parts_own s before (letter c ∷ after) owns h =
-    let e = is_escaped s.within s.place before c after in
+pub each_both : (P : ItemTree → Type 0) (ps qs : List Part) → EachNode P ps → EachNode P qs → EachNode P (ps ++ qs)
+each_both P [] qs h k = k
+each_both P (loose j o b ∷ ps) qs h k = each_both P ps qs h k
+each_both P (node t ∷ ps) qs h k = (h.0, each_both P ps qs h.1 k)
+
+-- it holds of each node of the page round calls
+abbrev pub OfRound : (ItemTree → Type 0) → Type 0
+OfRound P = (u : ItemTree) → IsRoundDeep u → list_all is_page (tree_items u) ≡ false → P u
+
+pub round_each : (P : ItemTree → Type 0) → OfRound P → (own : List Item) → IsRoundCalls own → EachNode P (line_parts own)
+round_each P w own r = subst (EachNode P) (sym r.is) (w r.tree r.deep r.called, tt)
+
+-- what holds of nodes of the page and of calls, and of nodes round calls, holds of each of its nodes
+pub parts_each : (P : ItemTree → Type 0) → ((qs : List Part) → AreOwnOrGiven qs → EachNode P qs) → OfRound P → (s : Setting)
+    (before signs : List ContentSign) (owns : List (List Item)) → AreOwnInside owns → EachNode P (parts_with s before signs owns)
+parts_each P f w s before [] owns h = let u : Bool = is_guarded s before [] in f (parts Text (guard_items u)) (guard_own u)
+parts_each P f w s before (letter c ∷ after) owns h =
+    let e : Bool = is_escaped s.within s.place before c after in
+    let u : Bool = is_guarded s before (letter c ∷ after) in
     let more : List Part = parts_with s (letter c ∷ before) after owns in
-    given_both (parts Text (guard_items (is_guarded s before (letter c ∷ after)))) (parts Text (letter_items e c) ++ more)
-    (guard_own (is_guarded s before (letter c ∷ after)))
-    (given_both (parts Text (letter_items e c)) more (letter_own e c) (parts_own s (letter c ∷ before) after owns h))
-parts_own s before (thing t ∷ after) [] h = guard_own (is_guarded s before (thing t ∷ after))
-parts_own s before (thing t ∷ after) (own ∷ owns) h =
+    each_both P (parts Text (guard_items u)) (parts Text (letter_items e c) ++ more) (f (parts Text (guard_items u)) (guard_own u))
+    (each_both P (parts Text (letter_items e c)) more (f (parts Text (letter_items e c)) (letter_own e c)) (parts_each P f w s (letter c ∷ before) after owns h))
+parts_each P f w s before (thing t ∷ after) [] h =
+    let u : Bool = is_guarded s before (thing t ∷ after) in f (parts Text (guard_items u)) (guard_own u)
+parts_each P f w s before (thing t ∷ after) (own ∷ owns) h =
+    let u : Bool = is_guarded s before (thing t ∷ after) in
     let more : List Part = parts_with s (thing t ∷ before) after owns in
-    given_both (parts Text (guard_items (is_guarded s before (thing t ∷ after)))) (line_parts own ++ more) (guard_own (is_guarded s before (thing t ∷ after)))
-    (given_both (line_parts own) more h.0 (parts_own s (thing t ∷ before) after owns h.1))
+    let here : EachNode P (line_parts own) = elim h.0 [
+      | inl g ↦ f (line_parts own) g
+      | inr r ↦ round_each P w own r
+    ] in
+    each_both P (parts Text (guard_items u)) (line_parts own ++ more) (f (parts Text (guard_items u)) (guard_own u))
+    (each_both P (line_parts own) more here (parts_each P f w s (thing t ∷ before) after owns h.1))
+
+pub called_pieces : (s : Setting) (before signs : List ContentSign) (owns : List (List Item)) → AreOwnInside owns → ArePieceNodes (parts_with s before signs owns)
+called_pieces s before signs owns h = parts_each IsPieceNode (λ qs g. as_pieces qs g) (λ u r e. inr (deep_round u r)) s before signs owns h
+
+pub parts_alike : (calls : List OuterCall) (s : Setting) (before signs : List ContentSign) (owns : List (List Item)) → AreOwnInside owns
+    → EachNode (IsShownAlike calls) (parts_with s before signs owns)
+parts_alike calls s before signs owns h =
+    parts_each (IsShownAlike calls) (λ qs g. as_shown calls qs g) (λ u r e. inr (deep_round u r, round_alike calls u r)) s before signs owns h
 
 -- ---- a letter is the page's own
 
@@ -114,6 +145,12 @@ some_page (loose Text o b ∷ ps) h = or_first (is_no_call o) (list_any is_page 
 some_page (loose Sep o b ∷ ps) h = absurd h
 some_page (node t ∷ ps) h = let own = h.0 in any_left (tree_items t) (held_parts ps) (has_page t own.has_items)
 
+-- and so are the delimiters of a node round calls
+pub some_round : (own : List Item) → IsRoundCalls own → list_any is_page (held_parts (line_parts own)) ≡ true
+some_round own r =
+    subst (λ (ps : List Part). list_any is_page (held_parts ps) ≡ true) (sym r.is)
+    (any_left (tree_items r.tree) [] (round_some r.tree (deep_round r.tree r.deep)))
+
 -- and so is `<nowiki/>`
 pub some_guard : (u : Bool) → u ≡ true → list_any is_page (held_parts (parts Text (guard_items u))) ≡ true
 some_guard true e = some_page (parts Text (guard_items true)) (guard_parts true)
@@ -132,7 +169,7 @@ called_round s signs owns h =
       no_leaf = refl;
       own_opening = refl;
       own_closing = refl;
-      parts = as_pieces ps (parts_own s [] signs owns h.own);
+      parts = called_pieces s [] signs owns h.own;
       some = ap (list_any is_page) (para_items ps) ∙ h.some;
     }
 

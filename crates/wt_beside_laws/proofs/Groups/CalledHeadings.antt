@@ -18,7 +18,6 @@ use Rattle.wt_inline.specs.Parts.{Part, parts, children}
 use Rattle.wt_context.specs.Line.{line_parts}
 use Rattle.wt_annotated.specs.Clean.{is_page}
 use Rattle.wt_part_laws.specs.CallPieces.{ArePieceNodes}
-use Rattle.wt_part_laws.proofs.CallPieces.{as_pieces}
 use Rattle.wt_part_laws.specs.HeldCalls.{block_in, HoldsItsCalls, IsRoundGiven, block_of_pieces}
 use Rattle.wt_part_laws.proofs.HeldBlocks.{given_hold, given_block_is}
 use Rattle.wt_text_edit_laws.specs.LonePages.{page_chars}
@@ -33,7 +32,7 @@ use Rattle.wt_beside_laws.specs.InHeadings.{AreOnOneLine}
 use Rattle.wt_beside_laws.specs.Lines.{AreCharacters}
 use Rattle.wt_beside_laws.proofs.LineHeadings.{unbroken_both, none_by, guard_none, begins_seen, SeenLast, ends_behind, last_behind, letter_last, end_last, UnequalLast, letter_unequal, end_unequal, begins_unequal, unequal_end}
 use Rattle.wt_beside_laws.proofs.LineItems.{letter_unbroken}
-use Rattle.wt_beside_laws.proofs.Groups.CalledBlocks.{parts_own}
+use Rattle.wt_beside_laws.proofs.Groups.CalledBlocks.{called_pieces}
 use Rattle.wt_beside_laws.proofs.Groups.CalledLines.{given_unbroken, line_opens}
 use Rattle.wt_beside_laws.proofs.Groups.CalledParts.{line_parts_are}
 
@@ -184,8 +183,7 @@ round_given ps sides h a =
 
 heading_given : (s : Setting) (signs : List ContentSign) (owns : List (List Item)) (sides : Sides) → IsCalledHeading s signs owns → AreSides sides
     → IsRoundGiven (plain (kind.Heading sides.level)) (page_chars (opening sides)) (parts_with s [] signs owns) (closing_items sides)
-heading_given s signs owns sides h a =
-    let ps : List Part = parts_with s [] signs owns in round_given ps sides (as_pieces ps (parts_own s [] signs owns h.own)) a
+heading_given s signs owns sides h a = round_given (parts_with s [] signs owns) sides (called_pieces s [] signs owns h.own) a
 
 pub heading_holds : (s : Setting) (signs : List ContentSign) (owns : List (List Item)) (sides : Sides) → IsCalledHeading s signs owns → AreSides sides
     → HoldsItsCalls (heading_round sides (items_with s [] signs owns))

@@ -27,9 +27,9 @@ use Rattle.wt_beside_laws.specs.Given.{AreGivenBy, GivesSigns, IsGroup}
 use Rattle.wt_beside_laws.specs.Shown.{parts_shown_at}
 use Rattle.wt_beside_laws.proofs.LineParts.{form_texts}
 use Rattle.wt_beside_laws.proofs.LineShown.{one_by_one, shown_append, children_show, guard_shows, letter_shows}
-use Rattle.wt_beside_laws.proofs.Groups.CalledBlocks.{called_block, parts_own}
+use Rattle.wt_beside_laws.proofs.Groups.CalledBlocks.{called_block, parts_alike}
 use Rattle.wt_beside_laws.proofs.Groups.Gifts.{given_case}
-use Rattle.wt_beside_laws.proofs.Groups.GivenNodes.{group_shows, children_shown, children_in_page, by_call_children}
+use Rattle.wt_beside_laws.proofs.Groups.GivenNodes.{group_shows, children_shown, shown_in_page, by_call_children}
 
 -- ---- the signs
 
@@ -87,7 +87,7 @@ called_shows calls s signs owns rest h =
     let ps : List Part = parts_with s [] signs owns in
     ap (λ (t : Tree). plain_before (cut_texts t) rest) (called_block calls s signs owns h)
     ∙ ap (λ (qs : Plains). along (element paragraph_face qs) rest)
-    (children_in_page calls ps ended (parts_own s [] signs owns h.own) (parts_texts s [] signs owns h.given h.flat) ∙ parts_show s [] signs owns ended h.given h.flat)
+    (shown_in_page calls ps ended (parts_alike calls s [] signs owns h.own) (parts_texts s [] signs owns h.given h.flat) ∙ parts_show s [] signs owns ended h.given h.flat)
 
 -- ---- a group
 

@@ -17,14 +17,15 @@ use Rattle.wt_annotated.specs.Clean.{is_page}
 use Rattle.wt_lines.specs.Lines.{IsUnbroken}
 use Rattle.wt_tiles.specs.Glyphs.{glyph_of}
 use Rattle.wt_part_laws.specs.CallPieces.{AreOwnOrGiven}
-use Rattle.wt_beside_laws.specs.Called.{owns_in, parts_with, HasUncalled, IsOwnNode, IsGivenAs, AreGiven, AreOwnInside, IsCalledContent, GivesGroup, StaysAsItIs, IsOfFolder, AreOfFolder, IsCalledIn, AllEndSeen, IsCalledHeading, AllSeenIn, IsCalledInHeading}
+use Rattle.wt_beside_laws.specs.Called.{owns_in, parts_with, HasUncalled, IsOwnNode, IsGivenAs, AreGiven, AreOwnInside, IsCalledContent, GivesGroup, StaysAsItIs, StaysRound, IsOfFolder, AreOfFolder, IsCalledIn, AllEndSeen, IsCalledHeading, AllSeenIn, IsCalledInHeading}
 use Rattle.wt_beside_laws.specs.Content.{guard_items, letter_items}
 use Rattle.wt_beside_laws.specs.Flat.{IsFlat, AreFlat}
-use Rattle.wt_beside_laws.specs.Given.{AreGivenBy, GivesSigns, IsGroup}
+use Rattle.wt_beside_laws.specs.Given.{AreGivenBy, GivesSigns, IsGroup, is_bare_url}
 use Rattle.wt_beside_laws.specs.NodeItems.{node_items}
+use Rattle.wt_beside_laws.specs.RoundCalls.{IsRoundCalls}
 use Rattle.wt_beside_laws.specs.Nodes.{IsNode, OpensNoPair}
 use Rattle.wt_beside_laws.specs.Stood.{things}
-use Rattle.wt_beside_laws.proofs.Groups.CalledBlocks.{held_left, held_right, page_given, some_guard, some_letter, some_of_page, some_page}
+use Rattle.wt_beside_laws.proofs.Groups.CalledBlocks.{held_left, held_right, page_given, some_guard, some_letter, some_of_page, some_page, some_round}
 
 -- ---- a node
 
@@ -39,34 +40,49 @@ stays_given pages i t h = record {
   unbroken = subst IsUnbroken (sym (h.items i)) h.unbroken;
 }
 
+either_given : (pages : Pages) (i : ℕ) (t : Thing) → StaysAsItIs pages t ⊎ StaysRound pages t → IsOwnNode t (own_of pages i t)
+either_given pages i t (inl h) = stays_given pages i t h
+either_given pages i t (inr r) = r.node i
+
 pub given_as : (r : Role) (pages : Pages) (i : ℕ) (t : Thing) → IsOfFolder r pages t → IsGivenAs r t (own_of pages i t)
-given_as Link pages i t h = stays_given pages i t h
-given_as External pages i t h = stays_given pages i t h
+given_as Link pages i t h = either_given pages i t h
+given_as External pages i t h = either_given pages i t h
 given_as (Bare ends) pages i t h = stays_given pages i t h
 given_as Switch pages i t h = stays_given pages i t h
 given_as Toggle pages i t h = (h.items i, stays_given pages i t h)
 given_as (Mark ends began) pages i t h = stays_given pages i t h
 given_as (Group g) pages i t h = (i, h i)
 given_as Function pages i t h = stays_given pages i t h
-given_as Node pages i t h = stays_given pages i t h
+given_as Node pages i t h = either_given pages i t h
 
--- it stays as it is, or is a group
-pub folder_case : (r : Role) (pages : Pages) (t : Thing) → IsOfFolder r pages t
-    → (StaysAsItIs pages t × (is_group r ≡ false)) ⊎ ((g : Transclusion) × (r ≡ Group g) × GivesGroup pages g t.source)
-folder_case Link pages t h = inl (h, refl)
-folder_case External pages t h = inl (h, refl)
+-- it stays as it is, or round calls, or is a group
+abbrev pub FolderCase : Role → Pages → Thing → Type 0
+FolderCase r pages t =
+    (StaysAsItIs pages t × (is_group r ≡ false))
+    ⊎ ((StaysRound pages t × (is_group r ≡ false) × (is_bare_url r ≡ false)) ⊎ ((g : Transclusion) × (r ≡ Group g) × GivesGroup pages g t.source))
+
+either_case : (r : Role) (pages : Pages) (t : Thing) → is_group r ≡ false → is_bare_url r ≡ false → StaysAsItIs pages t ⊎ StaysRound pages t → FolderCase r pages t
+either_case r pages t e f (inl h) = inl (h, e)
+either_case r pages t e f (inr h) = inr (inl (h, e, f))
+
+pub folder_case : (r : Role) (pages : Pages) (t : Thing) → IsOfFolder r pages t → FolderCase r pages t
+folder_case Link pages t h = either_case Link pages t refl refl h
+folder_case External pages t h = either_case External pages t refl refl h
 folder_case (Bare ends) pages t h = inl (h, refl)
 folder_case Switch pages t h = inl (h, refl)
 folder_case Toggle pages t h = inl (h, refl)
 folder_case (Mark ends began) pages t h = inl (h, refl)
-folder_case (Group g) pages t h = inr (g, refl, h)
+folder_case (Group g) pages t h = inr (inr (g, refl, h))
 folder_case Function pages t h = inl (h, refl)
-folder_case Node pages t h = inl (h, refl)
+folder_case Node pages t h = either_case Node pages t refl refl h
 
 flat_in : (pages : Pages) (t : Thing) → IsOfFolder t.role pages t → IsFlat t.role
 flat_in pages t h = elim (folder_case t.role pages t h) [
   | inl k ↦ let stays : StaysAsItIs pages t = k.0 in stays.flat
-  | inr k ↦ subst IsFlat (sym k.1) tt
+  | inr e ↦ elim e [
+    | inl k ↦ let stays : StaysRound pages t = k.0 in stays.flat
+    | inr k ↦ subst IsFlat (sym k.1) tt
+  ]
 ]
 
 -- what it is on a line by itself
@@ -76,15 +92,24 @@ given_by j (loose Text o b ∷ ps) h = given_by j ps h.1
 given_by j (loose Sep o b ∷ ps) h = absurd h
 given_by j (node t ∷ ps) h = (inr (j, h.0), given_by j ps h.1)
 
-pub inside_in : (pages : Pages) (i : ℕ) (t : Thing) → IsOfFolder t.role pages t → AreOwnOrGiven (line_parts (own_of pages i t))
+pub stays_inside : (pages : Pages) (i : ℕ) (t : Thing) → StaysAsItIs pages t → AreOwnOrGiven (line_parts (own_of pages i t))
+stays_inside pages i t stays =
+    subst (λ (xs : List Item). AreOwnOrGiven (line_parts xs)) (sym (stays.items i))
+    (page_given (line_parts (node_items t.source)) (some_of_page (line_parts (node_items t.source)) stays.own))
+
+pub group_inside : (pages : Pages) (i : ℕ) (g : Transclusion) (t : Thing) → GivesGroup pages g t.source → AreOwnOrGiven (line_parts (own_of pages i t))
+group_inside pages i g t h =
+    let group : IsGroup g i (own_of pages i t) = h i in
+    let gives : GivesSigns i (own_of pages i t) = group.gives in
+    given_by i (line_parts (own_of pages i t)) gives.inside
+
+inside_in : (pages : Pages) (i : ℕ) (t : Thing) → IsOfFolder t.role pages t → AreOwnOrGiven (line_parts (own_of pages i t)) ⊎ IsRoundCalls (own_of pages i t)
 inside_in pages i t h = elim (folder_case t.role pages t h) [
-  | inl k ↦
-      let stays : StaysAsItIs pages t = k.0 in
-      subst (λ (xs : List Item). AreOwnOrGiven (line_parts xs)) (sym (stays.items i)) (page_given (line_parts (node_items t.source)) (some_of_page (line_parts (node_items t.source)) stays.own))
-  | inr k ↦
-      let group : IsGroup k.0 i (own_of pages i t) = k.2 i in
-      let gives : GivesSigns i (own_of pages i t) = group.gives in
-      given_by i (line_parts (own_of pages i t)) gives.inside
+  | inl k ↦ inl (stays_inside pages i t k.0)
+  | inr e ↦ elim e [
+    | inl k ↦ let stays : StaysRound pages t = k.0 in inr (stays.round i)
+    | inr k ↦ inl (group_inside pages i k.0 t k.2)
+  ]
 ]
 
 -- ---- something of it is the page's own
@@ -95,7 +120,10 @@ node_some pages i t h e = elim (folder_case t.role pages t h) [
   | inl k ↦
       let stays : StaysAsItIs pages t = k.0 in
       subst (λ (xs : List Item). list_any is_page (held_parts (line_parts xs)) ≡ true) (sym (stays.items i)) (some_page (line_parts (node_items t.source)) stays.own)
-  | inr k ↦ let no : true ≡ false = sym (ap is_group k.1) ∙ e in absurd (cc)
+  | inr f ↦ elim f [
+    | inl k ↦ let stays : StaysRound pages t = k.0 in some_round (own_of pages i t) (stays.round i)
+    | inr k ↦ let no : true ≡ false = sym (ap is_group k.1) ∙ e in absurd (cc)
+  ]
 ]
 
 some_in : (pages : Pages) (i : ℕ) (s : Setting) (before signs : List ContentSign) → AreOfFolder pages signs → HasUncalled s before signs

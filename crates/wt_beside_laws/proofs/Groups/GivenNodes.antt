@@ -44,7 +44,7 @@ inside_same false us vs e = e
 mutual
   unfolding label_at
 
-  placeless_same : (before : List Item) (t : ItemTree) → placeless (placed before t) ≡ placeless (unplaced t)
+  pub placeless_same : (before : List Item) (t : ItemTree) → placeless (placed before t) ≡ placeless (unplaced t)
   placeless_same before (inner h o ts c) =
       ap (tree (own_label h o ts c)) (inside_same (is_leaf h.kind) (all_placed (before ++ o) ts) (all_unplaced ts) (all_placeless_same (before ++ o) ts))
 
@@ -54,7 +54,7 @@ mutual
 
 -- ---- no text in it is cut
 
-as_uncut : (x : Texts) (us : Trees) → is_cut_anew x ≡ false → cut_as x us ≡ us
+pub as_uncut : (x : Texts) (us : Trees) → is_cut_anew x ≡ false → cut_as x us ≡ us
 as_uncut Separators us e = refl
 as_uncut Page us e = refl
 as_uncut Bordered us e = let no : true ≡ false = e in cc
@@ -115,7 +115,7 @@ group_shows calls j ts rest h = all_shown_placeless (all_unplaced (forest ts)) r
 -- ---- its nodes in the page's tree
 
 -- a node of the page shows what it does on a page without calls
-own_shows : (t : ItemTree) (rest : Plains) → plain_before (cut_texts (placeless (placed [] t))) rest ≡ plain_before (standing 0 [] t) rest
+pub own_shows : (t : ItemTree) (rest : Plains) → plain_before (cut_texts (placeless (placed [] t))) rest ≡ plain_before (standing 0 [] t) rest
 own_shows t rest =
     ap (λ (u : Tree). plain_before (cut_texts u) rest) (sym (numbers_gone 0 (placed [] t)))
     ∙ ap (λ (u : Tree). plain_before u rest) (sym (texts_same (with_numbers 0 (placed [] t))))
@@ -206,10 +206,6 @@ pub as_shown : (calls : List OuterCall) (ps : List Part) → AreOwnOrGiven ps �
 as_shown calls [] h = tt
 as_shown calls (loose k o b ∷ ps) h = as_shown calls ps h
 as_shown calls (node t ∷ ps) h = (inl h.0, as_shown calls ps h.1)
-
-pub children_in_page : (calls : List OuterCall) (ps : List Part) (rest : Plains) → AreOwnOrGiven ps → AreTexts ps
-    → plains_before (all_cut_texts (pieces_in_page calls (call_pieces (children ps)))) rest ≡ one_by_one ps rest
-children_in_page calls ps rest h t = shown_in_page calls ps rest (as_shown calls ps h) t
 
 -- ---- the nodes of characters and nodes of one call
 

@@ -10,13 +10,13 @@ use Rattle.wt_guards.specs.Table.{hazard}
 use Rattle.wt_tiles.specs.declared.glyph.Glyph.{Glyph}
 use Rattle.wt_tiles.specs.Glyphs.{glyph_of}
 use Rattle.wt_beside_laws.specs.Called.{BehindMay, LeadMay, MayMeet, MeetsNearest, AllMeetWith}
-use Rattle.wt_beside_laws.specs.Cuts.{own_glyphs, ends_word}
+use Rattle.wt_beside_laws.specs.Cuts.{ends_word}
 use Rattle.wt_beside_laws.specs.Nodes.{IsNode, MayFollow, MayLead}
-use Rattle.wt_beside_laws.proofs.PageNodes.{follows_none, Meet, meet, unparted}
+use Rattle.wt_beside_laws.proofs.PageNodes.{follows_none, MeetBy, meet_apart, unparted}
 
--- it gives these: those of its source, or it is a group
+-- it gives these, or it is a group
 abbrev pub IsNodeOrGroup : Thing → List Glyph → Type 0
-IsNodeOrGroup t gs = (IsNode t.role gs × (gs ≡ own_glyphs t)) ⊎ (is_group t.role ≡ true)
+IsNodeOrGroup t gs = IsNode t.role gs ⊎ (is_group t.role ≡ true)
 
 -- ---- two that aren't side by side in the page
 
@@ -148,21 +148,16 @@ lead_as (Group g) own word n m = absurd n
 lead_as Function own word n m = m
 lead_as Node own word n m = m
 
-both_nodes : (t n : Thing) (left right : List Glyph) → IsNode t.role left → left ≡ own_glyphs t → IsNode n.role right → right ≡ own_glyphs n
-    → is_adjacent t n ≡ false → is_parted t n ≡ false → MayMeet t left n right
-both_nodes t n left right h i k j e z =
-    let first : IsNode t.role (own_glyphs t) = subst (IsNode t.role) i h in
-    let second : IsNode n.role (own_glyphs n) = subst (IsNode n.role) j k in
-    let both : Meet t n = meet t n first second (λ x. let no : true ≡ false = sym x ∙ e in absurd (cc)) z in
-    subst (λ (gs : List Glyph). MayMeet t gs n right) (sym i)
-    (subst (λ (gs : List Glyph). MayMeet t (own_glyphs t) n gs) (sym j)
-    (follow_as t.role (own_glyphs t) (own_glyphs n) first both.0, lead_as n.role (own_glyphs n) (ends_word false (own_glyphs t)) second both.1))
+both_nodes : (t n : Thing) (left right : List Glyph) → IsNode t.role left → IsNode n.role right → is_adjacent t n ≡ false → is_parted t n ≡ false → MayMeet t left n right
+both_nodes t n left right h k e z =
+    let both : MeetBy t left n right = meet_apart t n left right h k e z in
+    (follow_as t.role left right h both.0, lead_as n.role right (ends_word false left) k both.1)
 
 apart_meet : (t n : Thing) (left right : List Glyph) → IsNodeOrGroup t left → IsNodeOrGroup n right → is_adjacent t n ≡ false → is_parted t n ≡ false
     → MayMeet t left n right
 apart_meet t n left right (inr g) k e z = behind_group t n left right g e z
-apart_meet t n left right (inl h) (inr g) e z = before_group t n left right h.0 g e z
-apart_meet t n left right (inl h) (inl k) e z = both_nodes t n left right h.0 h.1 k.0 k.1 e z
+apart_meet t n left right (inl h) (inr g) e z = before_group t n left right h g e z
+apart_meet t n left right (inl h) (inl k) e z = both_nodes t n left right h k e z
 
 -- two that are always parted are so where they are side by side, too
 always_by : (r q : Role) (brace : Bool) → is_always_parted r q ≡ true

@@ -163,7 +163,7 @@ bare_marked : (ends : Bool) (own : List Glyph) (kind : Bool) → is_quote_last o
 bare_marked ends own true u = inr (record { unquoted = u; quotes = refl })
 bare_marked ends own false u = inr (record { unquoted = u; quotes = refl })
 
-before_mark : (r : Role) (own other : List Glyph) (kind : Bool) → other ≡ byte_glyphs (mark_source kind) → EndsUnquoted r own → MayFollow r own other
+pub before_mark : (r : Role) (own other : List Glyph) (kind : Bool) → other ≡ byte_glyphs (mark_source kind) → EndsUnquoted r own → MayFollow r own other
 before_mark Link own other kind i u = subst (MayFollow Link own) (sym i) (link_marked own kind)
 before_mark External own other kind i u = follows_none own other External (λ g. tt)
 before_mark (Bare ends) own other kind i u = subst (MayFollow (Bare ends) own) (sym i) (bare_marked ends own kind u)

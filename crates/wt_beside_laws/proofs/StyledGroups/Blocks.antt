@@ -9,8 +9,8 @@ use Rattle.wt_guards.specs.Guards.{Setting, is_guarded}
 use Rattle.wt_guards.specs.Letters.{is_escaped}
 use Rattle.wt_lines.specs.Lines.{lines}
 use Rattle.wt_inline.specs.ItemTree.{ItemTree, plain, tree_items}
-use Rattle.wt_inline.specs.Parts.{Part, held_parts, loose, node, parts}
-use Rattle.wt_inline.specs.declared.loose.Loose.TheVariants.{Sep, Text}
+use Rattle.wt_inline.specs.Parts.{Part, held_parts, node, parts}
+use Rattle.wt_inline.specs.declared.loose.Loose.TheVariants.{Text}
 use Rattle.wt_context.proofs.PlainNodes.{AreTexts, text_parts, texts_both}
 use Rattle.wt_context.specs.Line.{line_parts}
 use Rattle.wt_annotated.specs.Clean.{is_page}
@@ -19,7 +19,8 @@ use Rattle.wt_part_laws.proofs.HeldBlocks.{given_block_is, given_hold}
 use Rattle.wt_part_laws.specs.CallPieces.{AreOwnOrGiven, ArePieceNodes, EachNode, IsPieceNode, IsRoundNode}
 use Rattle.wt_part_laws.specs.HeldCalls.{HoldsItsCalls, IsRoundGiven, block_in, block_of_pieces}
 use Rattle.wt_text_edit_laws.specs.ParagraphParts.{joined_parts, para_with}
-use Rattle.wt_beside_laws.proofs.Groups.CalledBlocks.{guard_own, held_left, held_right, letter_own, page_given, para_items, some_guard, some_letter, some_of_page, some_page}
+use Rattle.wt_beside_laws.proofs.Groups.CalledBlocks.{OfRound, each_both, guard_own, held_left, held_right, letter_own, page_given, para_items, round_each, some_guard, some_letter, some_of_page, some_page, some_round}
+use Rattle.wt_beside_laws.proofs.Groups.RoundNodes.{deep_round}
 use Rattle.wt_beside_laws.proofs.Groups.CalledShown.{given_texts}
 use Rattle.wt_beside_laws.proofs.LineShown.{guard_texts}
 use Rattle.wt_beside_laws.proofs.StyledGroups.Lines.{given_behind, past_mark}
@@ -28,7 +29,7 @@ use Rattle.wt_beside_laws.specs.Called.{AreGiven, HasUncalled, items_with}
 use Rattle.wt_beside_laws.specs.Content.{guard_items, letter_items}
 use Rattle.wt_beside_laws.specs.Nests.{style_tree}
 use Rattle.wt_beside_laws.specs.Styled.{AreNested, StyledContent, delimiter, finished, sign, signs_before, signs_in, signs_past, styled}
-use Rattle.wt_beside_laws.specs.StyledCalls.{AreOwnAt, IsOwnAt, IsStyledCalled, owns_left, owns_past, styled_with}
+use Rattle.wt_beside_laws.specs.StyledCalls.{AreOwnAt, IsOfPage, IsOwnAt, IsStyledCalled, owns_left, owns_past, styled_with}
 
 -- ---- its parts are texts and nodes
 
@@ -69,39 +70,40 @@ pub style_round : (kind : Bool) (ps : List Part) → IsRoundNode (style_tree kin
 style_round true ps = (refl, refl, refl, refl, refl)
 style_round false ps = (refl, refl, refl, refl, refl)
 
-pub own_texts : (within : Bool) (x : Thing) (own : List Item) → IsOwnAt within x own → AreOwnOrGiven (line_parts own)
-own_texts true x own (inl g) = g.1
-own_texts true x own (inr p) = page_given (line_parts own) (some_of_page (line_parts own) p)
-own_texts false x own (inl g) = g.1
-own_texts false x own (inr p) = page_given (line_parts own) (some_of_page (line_parts own) p)
+page_each : (P : ItemTree → Type 0) → ((qs : List Part) → AreOwnOrGiven qs → EachNode P qs) → OfRound P → (own : List Item) → IsOfPage own
+    → EachNode P (line_parts own)
+page_each P f v own (inl p) = f (line_parts own) (page_given (line_parts own) (some_of_page (line_parts own) p))
+page_each P f v own (inr r) = round_each P v own r
 
-pub each_both : (P : ItemTree → Type 0) (ps qs : List Part) → EachNode P ps → EachNode P qs → EachNode P (ps ++ qs)
-each_both P [] qs h k = k
-each_both P (loose j o b ∷ ps) qs h k = each_both P ps qs h k
-each_both P (node t ∷ ps) qs h k = (h.0, each_both P ps qs h.1 k)
+own_each : (P : ItemTree → Type 0) → ((qs : List Part) → AreOwnOrGiven qs → EachNode P qs) → OfRound P → (within : Bool) (x : Thing)
+    (own : List Item) → IsOwnAt within x own → EachNode P (line_parts own)
+own_each P f v true x own (inl g) = f (line_parts own) g.1
+own_each P f v true x own (inr p) = page_each P f v own p
+own_each P f v false x own (inl g) = f (line_parts own) g.1
+own_each P f v false x own (inr p) = page_each P f v own p
 
--- what holds of nodes of the page and of calls, and of each style, holds of each of its nodes
-pub styled_each : (P : ItemTree → Type 0) → ((qs : List Part) → AreOwnOrGiven qs → EachNode P qs) → (s : Setting) (within bold italic : Bool) (before : List ContentSign)
-    (t : StyledContent) (after : List ContentSign) (owns : List (List Item)) → AreGiven (signs_before t after) owns → AreNested bold italic t → AreOwnAt within t owns
+-- what holds of nodes of the page and of calls, of nodes round calls, and of each style, holds of each of its nodes
+pub styled_each : (P : ItemTree → Type 0) → ((qs : List Part) → AreOwnOrGiven qs → EachNode P qs) → OfRound P → (s : Setting)
+    (within bold italic : Bool) (before : List ContentSign) (t : StyledContent) (after : List ContentSign) (owns : List (List Item)) → AreGiven (signs_before t after) owns → AreNested bold italic t → AreOwnAt within t owns
     → ((kind : Bool) (qs : List Part) → EachNode P qs → AreTexts qs → P (style_tree kind qs)) → EachNode P (styled_with false s before t after owns)
-styled_each P f s within bold italic before finished after owns g k h w = let u : Bool = is_guarded s before after in f (parts Text (guard_items u)) (guard_own u)
-styled_each P f s within bold italic before (sign (letter c) t) after owns g k h w =
+styled_each P f v s within bold italic before finished after owns g k h w = let u : Bool = is_guarded s before after in f (parts Text (guard_items u)) (guard_own u)
+styled_each P f v s within bold italic before (sign (letter c) t) after owns g k h w =
     let signs : List ContentSign = signs_before t after in
     let e : Bool = is_escaped s.within s.place before c signs in
     let u : Bool = is_guarded s before (letter c ∷ signs) in
     let more : List Part = styled_with false s (letter c ∷ before) t after owns in
     each_both P (parts Text (guard_items u)) (parts Text (letter_items e c) ++ more) (f (parts Text (guard_items u)) (guard_own u))
     (each_both P (parts Text (letter_items e c)) more (f (parts Text (letter_items e c)) (letter_own e c))
-    (styled_each P f s within bold italic (letter c ∷ before) t after owns g k.1 h w))
-styled_each P f s within bold italic before (sign (thing x) t) after [] g k h w = absurd h
-styled_each P f s within bold italic before (sign (thing x) t) after (own ∷ owns) g k h w =
+    (styled_each P f v s within bold italic (letter c ∷ before) t after owns g k.1 h w))
+styled_each P f v s within bold italic before (sign (thing x) t) after [] g k h w = absurd h
+styled_each P f v s within bold italic before (sign (thing x) t) after (own ∷ owns) g k h w =
     let signs : List ContentSign = signs_before t after in
     let u : Bool = is_guarded s before (thing x ∷ signs) in
     let more : List Part = styled_with false s (thing x ∷ before) t after owns in
     each_both P (parts Text (guard_items u)) (line_parts own ++ more) (f (parts Text (guard_items u)) (guard_own u))
-    (each_both P (line_parts own) more (f (line_parts own) (own_texts within x own h.0))
-    (styled_each P f s within bold italic (thing x ∷ before) t after owns g.1 k.1 h.1 w))
-styled_each P f s within bold italic before (styled kind opening closing inside t) after owns g k h w =
+    (each_both P (line_parts own) more (own_each P f v within x own h.0)
+    (styled_each P f v s within bold italic (thing x ∷ before) t after owns g.1 k.1 h.1 w))
+styled_each P f v s within bold italic before (styled kind opening closing inside t) after owns g k h w =
     let first : List ContentSign = delimiter kind opening ∷ before in
     let last : List ContentSign = delimiter kind closing ∷ signs_past inside first in
     let signs : List ContentSign = signs_before t after in
@@ -115,15 +117,15 @@ styled_each P f s within bold italic before (styled kind opening closing inside 
     let given_in : AreGiven held inner_owns = past_mark kind opening held owns g in
     let given_out : AreGiven signs outer = past_mark kind closing signs behind (given_behind inside closes inner_owns given_in) in
     each_both P (parts Text (guard_items u)) (node (style_tree kind ps) ∷ styled_with false s last t after outer) (f (parts Text (guard_items u)) (guard_own u)) (
-      w kind ps (styled_each P f s true (kind || bold) (not kind || italic) first inside closes inner_owns given_in k.1 h.0 w)
+      w kind ps (styled_each P f v s true (kind || bold) (not kind || italic) first inside closes inner_owns given_in k.1 h.0 w)
           (styled_texts s (kind || bold) (not kind || italic) first inside closes inner_owns given_in k.1),
-      styled_each P f s within bold italic last t after outer given_out k.2 h.1 w,
+      styled_each P f v s within bold italic last t after outer given_out k.2 h.1 w,
     )
 
 pub styled_own : (s : Setting) (t : StyledContent) (owns : List (List Item)) → AreGiven (signs_in t) owns → AreNested false false t → AreOwnAt false t owns
     → ArePieceNodes (styled_with false s [] t [] owns)
 styled_own s t owns g n w =
-    styled_each IsPieceNode (λ qs k. as_pieces qs k) s false false false [] t [] owns g n w (λ kind qs k a. inr (style_round kind qs))
+    styled_each IsPieceNode (λ qs k. as_pieces qs k) (λ u r e. inr (deep_round u r)) s false false false [] t [] owns g n w (λ kind qs k a. inr (style_round kind qs))
 
 -- ---- something of it is the page's own
 
@@ -134,7 +136,10 @@ some_style false ps = refl
 own_some : (x : Thing) (own : List Item) → IsOwnAt false x own → is_group x.role ≡ false → list_any is_page (held_parts (line_parts own)) ≡ true
 own_some x own h b = elim h [
   | inl g ↦ let no : true ≡ false = sym g.0 ∙ b in absurd (cc)
-  | inr k ↦ some_page (line_parts own) k
+  | inr k ↦ elim k [
+    | inl p ↦ some_page (line_parts own) p
+    | inr r ↦ some_round own r
+  ]
 ]
 
 styled_some : (s : Setting) (before : List ContentSign) (t : StyledContent) (owns : List (List Item)) → AreOwnAt false t owns → HasUncalled s before (signs_in t)

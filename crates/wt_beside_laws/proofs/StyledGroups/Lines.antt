@@ -9,7 +9,7 @@ use Rattle.wt_guards.specs.declared.role.Stretch.{Stretch}
 use Rattle.wt_tiles.specs.Contexts.{in_line}
 use Rattle.wt_tiles.specs.Glyphs.{glyph_of}
 use Rattle.wt_tiles.specs.Tiles.{Cut, cuts}
-use Rattle.wt_inline.specs.ItemTree.{inner}
+use Rattle.wt_inline.specs.ItemTree.{ItemTree, inner}
 use Rattle.wt_inline.specs.Parts.{Part, loose, node, parts}
 use Rattle.wt_inline.specs.declared.loose.Loose.TheVariants.{Sep, Text}
 use Rattle.wt_context.proofs.NestedContexts.{contexts_are}
@@ -35,6 +35,7 @@ use Rattle.wt_beside_laws.specs.Flat.{IsFlat}
 use Rattle.wt_beside_laws.specs.Given.{AreGivenSigns, AreNestedGiven, AreNestedSigns, GivenContent, GivenSign, character, form, given_cut, given_end, given_items, given_parts, given_sign, given_style, opens_quoted, signs_of}
 use Rattle.wt_beside_laws.specs.Nests.{mark_segments, nest_segments, style_of, style_tree}
 use Rattle.wt_beside_laws.specs.NodeItems.{node_items}
+use Rattle.wt_beside_laws.specs.RoundCalls.{IsRoundCalls, IsUnstyled}
 use Rattle.wt_beside_laws.specs.Styled.{AreNested, StyledContent, delimiter, finished, mark_source, sign, signs_before, signs_past, styled}
 use Rattle.wt_beside_laws.specs.StyledCalls.{AreOwnAt, AreUnstyledParts, IsOwnAt, owns_left, owns_past, styled_with}
 
@@ -146,6 +147,13 @@ style_unstyled : (j : ℕ) (kind : Bool) (ps qs : List Part) → AreUnstyledPart
 style_unstyled j true ps qs h = h.0
 style_unstyled j false ps qs h = h.0
 
+unstyled_node : (t : ItemTree) → IsUnstyled t → AreUnstyledParts (node t ∷ [])
+unstyled_node (inner h opening ts closing) u = (u, tt)
+
+-- nor has a node of the page round calls
+round_plain : (own : List Item) → IsRoundCalls own → AreUnstyledParts (line_parts own)
+round_plain own r = subst AreUnstyledParts (sym r.is) (unstyled_node r.tree r.plain)
+
 -- nor has what is given without one
 nested_plain : (bold italic : Bool) (j : ℕ) (t : GivenContent) → AreNestedGiven false false t → AreUnstyledParts (given_parts j t) → AreNestedGiven bold italic t
 nested_plain bold italic j given_end k h = tt
@@ -162,7 +170,8 @@ nested_in bold italic x own g f h = by bold italic h
 
     within : (b i : Bool) → IsOwnAt true x own → AreNestedGiven b i (g.nested f).content
     within b i (inl k) = nested_plain b i g.call (g.nested f).content (g.nested f).nested (subst AreUnstyledParts line k.2)
-    within b i (inr k) = nested_within b i g.call (g.nested f).content (g.nested f).nested (subst ArePageParts line (some_page (line_parts own) k))
+    within b i (inr (inl k)) = nested_within b i g.call (g.nested f).content (g.nested f).nested (subst ArePageParts line (some_page (line_parts own) k))
+    within b i (inr (inr r)) = nested_plain b i g.call (g.nested f).content (g.nested f).nested (subst AreUnstyledParts line (round_plain own r))
 
     by : (b i : Bool) → IsIn (b || i) x own → AreNestedGiven b i (g.nested f).content
     by false false k = (g.nested f).nested

@@ -26,6 +26,7 @@ use Rattle.wt_beside_laws.proofs.Groups.CalledShown.{given_texts}
 use Rattle.wt_beside_laws.proofs.Groups.GivenNodes.{IsShownAlike, as_piece, as_shown, shown_in_page}
 use Rattle.wt_beside_laws.proofs.LineShown.{children_show, guard_shows, letter_shows, one_by_one, shown_append}
 use Rattle.wt_beside_laws.proofs.Styled.StyledShown.{style_shows}
+use Rattle.wt_beside_laws.proofs.Groups.RoundNodes.{deep_round, round_alike}
 use Rattle.wt_beside_laws.proofs.StyledGroups.Blocks.{style_round, styled_called_block, styled_each, styled_texts}
 use Rattle.wt_beside_laws.proofs.StyledGroups.Lines.{given_behind, past_mark}
 use Rattle.wt_beside_laws.specs.Called.{AreGiven, items_with}
@@ -110,7 +111,7 @@ pub styled_children : (calls : List OuterCall) (s : Setting) (t : StyledContent)
     → plains_before (all_cut_texts (pieces_in_page calls (call_pieces (children (styled_with false s [] t [] owns))))) ended ≡ styled_called_shown t owns ended
 styled_children calls s t owns h n w =
     shown_in_page calls (styled_with false s [] t [] owns) ended
-    (styled_each (IsShownAlike calls) (λ qs g. as_shown calls qs g) s false false false [] t [] owns h n w (λ kind qs g a. style_alike calls kind qs g a))
+    (styled_each (IsShownAlike calls) (λ qs g. as_shown calls qs g) (λ u r e. inr (deep_round u r, round_alike calls u r)) s false false false [] t [] owns h n w (λ kind qs g a. style_alike calls kind qs g a))
     (styled_texts s false false [] t [] owns h n)
     ∙ styled_show s false false [] t [] owns ended h n
 

@@ -10,33 +10,36 @@ use Rattle.wt_tables.specs.Parts.{joined}
 use Rattle.wt_part_laws.specs.Standing.{standing}
 use Rattle.wt_text_edit_laws.specs.TextBlocks.{TextBlock, block_tree}
 use Rattle.wt_beside_laws.proofs.Made.OldBlocks.{no_group}
+use Rattle.wt_called_edit_laws.specs.AnyBlocks.{open_after}
 use Rattle.wt_called_edit_laws.specs.Covered.{NoGroupAt}
 use Rattle.wt_called_edit_laws.specs.Groups.{called_tree}
 use Rattle.wt_called_edit_laws.specs.LinedAmong.{AreBeside}
 use Rattle.wt_called_edit_laws.specs.ToldAmong.{IsToldAmong}
-use Rattle.wt_called_edit_laws.specs.ToldLines.{Told, lined}
+use Rattle.wt_called_edit_laws.specs.ToldLines.{Told, lined, rows_before, IsToldAt}
 use Rattle.wt_called_edit_laws.specs.ToldTogether.{AreAllTold}
 use Rattle.wt_called_edit_laws.proofs.Told.FreeNodes.{tree_untangled, untangled_shut}
 use Rattle.wt_called_edit_laws.proofs.AllTold.Alone.{IsAloneTold, IsAloneHere, alone_here, IsAloneRead, alone_read, content_closed}
 use Rattle.wt_called_edit_laws.proofs.AllTold.Chosen.{IsChosen}
 use Rattle.wt_called_edit_laws.proofs.AllTold.LineKinds.{Lines}
+use Rattle.wt_called_edit_laws.proofs.AllTold.NodeTexts.{told_content}
 use Rattle.wt_called_edit_laws.proofs.AllTold.Together.{AreAllChosen, chosen_together, told_by_all}
 
 alone_of : (pages : Pages) (page : List ℕ) (t : Told) (rest : Lines) → IsToldAmong pages page (t ∷ []) rest → IsAloneTold pages page t rest
 alone_of pages page t rest h =
-    let n : ℕ = length (text_from (expanded_page pages page).outer None (joined (lined t).before)) in
+    let n : ℕ = length (text_from (expanded_page pages page).outer None (joined (lined t).before ++ (lined t).marks)) in
     let z : 0 + n ≡ n = omega arith in
+    let at : IsToldAt [] t = h.told.0 in
     record {
       utf8 = h.utf8;
       closed = h.closed;
       are = h.are;
       told = h.told;
       place = record {
-        ends = h.own.0;
-        own = h.own.1;
-        calm = h.own.2;
-        beside = subst (λ (m : ℕ). AreBeside m (m + length (sources ((lined t).marks ++ joined ((lined t).first ∷ (lined t).more)))) (expanded_page pages page).text_calls) z
-            h.untouched.0;
+        own = h.own.0;
+        some = told_content t (length (open_after [] (rows_before [] t))) at.some at.own;
+        calm = h.own.1;
+        led = h.led.0;
+        beside = subst (λ (m : ℕ). AreBeside m (m + length (sources (joined ((lined t).first ∷ (lined t).more)))) (expanded_page pages page).text_calls) z h.untouched.0;
       };
     }
 

@@ -27,7 +27,7 @@ use Rattle.wt_called_edit_laws.specs.LinedAmong.{spots_of_lines, end_of_lines, A
 use Rattle.wt_called_edit_laws.specs.PlacedLines.{LinedBlock, all_lines, IsLinedAt}
 use Rattle.wt_called_edit_laws.specs.ToldLines.{Told, lined, rows_before, AreTold}
 use Rattle.wt_called_edit_laws.proofs.Among.BlockAt.{calls_of, IsRest, text_to}
-use Rattle.wt_called_edit_laws.proofs.Among.LinedParts.{IsLinedHere, lined_here, line_front, ends_text, spot_of, spot_source, page_rest}
+use Rattle.wt_called_edit_laws.proofs.Among.LinedParts.{IsLinedHere, lined_here, block_front, ends_text, spot_of, spot_source, page_rest}
 use Rattle.wt_called_edit_laws.proofs.Among.ToldAmong.{closed_here, told_at}
 use Rattle.wt_called_edit_laws.proofs.Cells.ContentItems.{round_is, items_by}
 use Rattle.wt_called_edit_laws.proofs.Cells.PlacedLines.{own_items}
@@ -47,16 +47,16 @@ pub record IsAloneTold (pages : Pages) (page : List ℕ) (o : Told) (rest : Line
   pub place : IsOwnBehind (expanded_page pages page) (joined (lined o).before) o
 
 pub beside_line : (pages : Pages) (page : List ℕ) (o : Told) (rest : Lines) → IsAloneTold pages page o rest
-    → AreBeside (text_to pages page 0 (line_front [] (lined o)))
-    (text_to pages page 0 (line_front [] (lined o)) + length (sources ((lined o).marks ++ own_items (lined o)))) (expanded_page pages page).text_calls
+    → AreBeside (text_to pages page 0 (block_front [] (lined o))) (text_to pages page 0 (block_front [] (lined o)) + length (sources (own_items (lined o))))
+    (expanded_page pages page).text_calls
 beside_line pages page o rest h =
-    let n : ℕ = length (text_from (calls_of pages page) None (joined (lined o).before)) in
+    let n : ℕ = length (text_from (calls_of pages page) None (joined (lined o).before ++ (lined o).marks)) in
     let z : n ≡ 0 + n = omega arith in
-    subst (λ (m : ℕ). AreBeside m (m + length (sources ((lined o).marks ++ own_items (lined o)))) (expanded_page pages page).text_calls) z h.place.beside
+    subst (λ (m : ℕ). AreBeside m (m + length (sources (own_items (lined o)))) (expanded_page pages page).text_calls) z h.place.beside
 
 -- its lines are the page's own
 pub alone_own : (pages : Pages) (page : List ℕ) (o : Told) (rest : Lines) → IsAloneTold pages page o rest → AreOwnLines (map lined (o ∷ []))
-alone_own pages page o rest h = (h.place.ends, h.place.own, h.place.calm, tt)
+alone_own pages page o rest h = (h.place.own, h.place.calm, tt)
 
 pub alone_untouched : (pages : Pages) (page : List ℕ) (o : Told) (rest : Lines) → IsAloneTold pages page o rest
     → AreUntouched (expanded_page pages page).outer (expanded_page pages page).text_calls 0 [] (map lined (o ∷ []))
@@ -79,11 +79,11 @@ alone_here pages page o rest h =
     let all : xs ≡ joined lines = joined_is goes_on lines xs runs in
     let r : IsRest pages page 0 ([] ++ joined lines) (page_items page) = page_rest pages page lines all in
     let beside = beside_line pages page o rest h in
-    let at : IsLinedAt [] b = told_at pages page [] o 0 [] rest (page_items page) xs runs (inl refl) r h.place.ends h.place.own beside
+    let at : IsLinedAt [] b = told_at pages page [] o 0 [] rest (page_items page) xs runs r h.place.own beside
     (closed_here (calls_of pages page) o (open_after [] (rows_before [] o)) [] rest h.told.1 h.closed.0) h.told.0 in
     record {
       at = at;
-      here = lined_here pages page [] [] b rest 0 (page_items page) xs runs (inl refl) r at h.place.ends h.place.own beside;
+      here = lined_here pages page [] [] b rest 0 (page_items page) xs runs (inl refl) r at h.place.own beside;
       runs = runs_behind goes_on b.before (ks ++ rest) xs runs;
     }
 
@@ -137,7 +137,7 @@ alone_read pages page o rest t h free =
     let whole : spots_source (s ∷ []) behind ≡ page = spot_source pages page [] [] b rest 0 (page_items page) l [] behind refl ∙ page_sources page in
     let there : EndsThere behind = subst EndsThere l.here.next.same (ends_text calls (ending (own_items b)) rest l.around.own_ending l.around.ends) in
     let r : SpotRead s behind l.here.behind =
-    spot_read s behind (page_items page) c (ap page_items whole) (subst IsUtf8 (sym whole) t.utf8) (inl l.ended) there (subst (EndsClosed (source_of b.block b.text)) l.here.next.same t.closed.0)
+    spot_read s behind (page_items page) c (ap page_items whole) (subst IsUtf8 (sym whole) t.utf8) t.place.led there (subst (EndsClosed (source_of b.block b.text)) l.here.next.same t.closed.0)
     (λ d a m. block_content b.block b.text own a m t.place.calm (free (read_of a m) m.items)) in
     let k : IsContent b.block b.text = r.content in
     let items : block_items b.block b.text ≡ own = sym k.unended ∙ l.here.alone in

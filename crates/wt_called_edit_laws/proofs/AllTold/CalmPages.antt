@@ -1,5 +1,5 @@
 -- On a page that calls nothing no block is excepted for a call.
-use Rattle.std.proofs.Common.{◌≡◌, ℕ, ◌+◌, None, List, [], ◌∷◌, ◌++◌, length, sym, ap, ◌∙◌, subst}
+use Rattle.std.proofs.Common.{◌≡◌, inl, ℕ, ◌+◌, None, List, [], ◌∷◌, ◌++◌, length, sym, ap, ◌∙◌, subst}
 use Rattle.wt_span.specs.Items.{Item, sources}
 use Rattle.wt_span.specs.Origins.{Expanded, Span}
 use Rattle.wt_span.specs.Runs.{AreRuns}
@@ -14,16 +14,19 @@ use Rattle.wt_page.proofs.Ends.{content_ending}
 use Rattle.wt_tables.specs.Parts.{joined}
 use Rattle.wt_text_edit_laws.specs.LonePages.{of_items}
 use Rattle.wt_text_edit_laws.specs.NoCalls.{CallsNothing}
+use Rattle.wt_text_edit_laws.specs.TextBetween.{AreEnded}
 use Rattle.wt_text_edit_laws.proofs.Between.NoCalls.{calm_expanded}
 use Rattle.wt_text_edit_laws.proofs.Cuts.TextLines.{joined_is}
-use Rattle.wt_called_edit_laws.specs.AllTold.{IsBesideNoCall, AreNoFunctions, IsBesideTexts, IsExceptedAt, IsExceptedIn, by_its_lines, beside_a_call, holds_a_function, holds_a_pair, IsExcepted}
+use Rattle.wt_called_edit_laws.specs.AllTold.{IsBesideNoCall, AreNoFunctions, IsBesideTexts, IsExceptedAt, IsExceptedIn, by_its_lines, beside_a_call, holds_a_function, IsExcepted}
 use Rattle.wt_called_edit_laws.specs.LinedAmong.{AreOfPage, AreBeside, AreOwnLines}
 use Rattle.wt_called_edit_laws.specs.PlacedLines.{LinedBlock, all_lines}
 use Rattle.wt_called_edit_laws.specs.RowBlocks.{opened_len, StandsIn}
 use Rattle.wt_called_edit_laws.specs.ToldLines.{Told, lined, AreTold}
 use Rattle.wt_called_edit_laws.proofs.Among.CalmLines.{page_of, page_runs, own_all}
 use Rattle.wt_called_edit_laws.proofs.Among.LinedParts.{of_behind, of_front}
-use Rattle.wt_called_edit_laws.proofs.Cells.PlacedLines.{own_items}
+use Rattle.wt_called_edit_laws.proofs.Among.OwnItems.{from_page}
+use Rattle.wt_called_edit_laws.proofs.Cells.PlacedLines.{own_items, lines_joined, page_ended}
+use Rattle.wt_called_edit_laws.proofs.PartTexts.{own_text}
 
 no_functions : (xs : List Item) → AreOfPage xs → AreNoFunctions xs
 no_functions [] h = tt
@@ -31,10 +34,9 @@ no_functions (x ∷ xs) h = (h.1, no_functions xs h.2)
 
 -- what is asked of lines beside calls holds
 record IsCalm (e : Expanded) (t : Told) : Type 0 where
-  beside : IsBesideNoCall (joined (lined t).before) t
+  beside : IsBesideNoCall e (joined (lined t).before) t
   functions : AreNoFunctions (content (own_items (lined t)))
   texts : IsBesideTexts e (joined (lined t).before) t
-  pairs : CallsNothing (content (own_items (lined t)))
 
 calm_lines : (pages : Pages) (page : List ℕ) (t : Told) (behind : List (List Item)) → CallsNothing (page_items page)
     → full_lines (expanded_page pages page).items ≡ all_lines (lined t ∷ []) behind → AreTold (t ∷ []) behind → IsCalm (expanded_page pages page) t
@@ -48,18 +50,18 @@ calm_lines pages page t behind c are told =
     let all : xs ≡ joined (all_lines (b ∷ []) behind) = joined_is goes_on (all_lines (b ∷ []) behind) xs runs in
     let own : AreOwnLines (b ∷ []) =
     own_all [] (b ∷ []) behind xs runs (subst AreOfPage all (page_of page)) (subst CallsNothing all c) (told.0.some, tt) in
-    let mine : AreOfPage (own_items b) = of_behind b.marks (own_items b) own.1 in
-    let parts : AreOfPage (content (own_items b) ++ ending (own_items b)) = subst AreOfPage (sym (content_ending (own_items b))) mine in
-    let from : ℕ = length (text_from e.outer None (joined b.before)) in
+    let parts : AreOfPage (content (own_items b) ++ ending (own_items b)) = subst AreOfPage (sym (content_ending (own_items b))) own.0 in
+    let front : List Item = joined b.before ++ b.marks in
+    let before : AreOfPage front = of_front front (own_items b ++ joined behind) (subst AreOfPage (all ∙ lines_joined b behind) (page_of page)) in
+    let before_is : text_from e.outer None front ≡ sources front = own_text e.outer None front (from_page front before) in
+    let from : ℕ = length (text_from e.outer None front) in
     record {
       beside = record {
-        ends = own.0;
-        marks = of_front b.marks (own_items b) own.1;
+        led = inl (subst AreEnded (sym before_is) (page_ended page b behind runs told.0.some told.0.are_marks));
         ending = of_behind (content (own_items b)) (ending (own_items b)) parts;
       };
       functions = no_functions (content (own_items b)) (of_front (content (own_items b)) (ending (own_items b)) parts);
-      texts = subst (λ (ss : List Span). AreBeside from (from + length (sources (b.marks ++ own_items b))) ss) (sym (ap (λ (x : Expanded). x.text_calls) expanded)) tt;
-      pairs = own.2;
+      texts = subst (λ (ss : List Span). AreBeside from (from + length (sources (own_items b))) ss) (sym (ap (λ (x : Expanded). x.text_calls) expanded)) tt;
     }
 
 pub calm_excepted : (pages : Pages) (page : List ℕ) (t : Tree) → CallsNothing (page_items page) → IsExcepted pages page t
@@ -73,4 +75,3 @@ calm_excepted pages page t c x = (x.stands, by x.begins_so)
     by (by_its_lines l) = l
     by (beside_a_call o behind are told at f) = absurd (f (calm_lines pages page o behind c are told).beside)
     by (holds_a_function o behind are told at f) = absurd (f (calm_lines pages page o behind c are told).functions)
-    by (holds_a_pair o behind are told at f) = absurd (f (calm_lines pages page o behind c are told).pairs)

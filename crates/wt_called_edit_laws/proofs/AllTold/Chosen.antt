@@ -1,5 +1,5 @@
 -- Which blocks of a page with calls are told by its lines: whether one is can be decided.
-use Rattle.std.proofs.Common.{arith, ◌≡◌, ◌<◌, ◌≤◌, ◌⊎◌, inl, inr, ℕ, zero, suc, ◌+◌, Bool, true, false, Option, Some, None, List, [], ◌∷◌, ◌++◌, length, map, refl, subst}
+use Rattle.std.proofs.Common.{arith, ◌≡◌, ◌<◌, ◌≤◌, ◌⊎◌, inl, inr, ℕ, zero, suc, ◌+◌, ◌==◌, Bool, true, false, Option, Some, None, List, [], ◌∷◌, ◌++◌, length, map, refl, subst}
 use Rattle.wt_span.specs.declared.form.ItemForm.{ItemForm}
 use Rattle.wt_span.specs.declared.form.ItemForm.TheVariants as form
 use Rattle.wt_span.specs.Items.{Item, char, whole, call_of, sign, sources}
@@ -7,7 +7,7 @@ use Rattle.wt_span.specs.Origins.{Span, Expanded}
 use Rattle.wt_tree.specs.declared.kind.Ranges.{Ranges}
 use Rattle.wt_tree.specs.Tiling.{is_group}
 use Rattle.wt_tree.specs.Tree.{Tree, tree, Trees, none, more}
-use Rattle.wt_annotated.specs.Seams.{last_of, text_from}
+use Rattle.wt_annotated.specs.Seams.{text_from}
 use Rattle.std.specs.List.{list_any}
 use Rattle.wt_tree.specs.Kinds.{is_leaf}
 use Rattle.wt_inline.specs.ItemTree.{ItemTree, inner, ItemTrees, nothing, further, forest, held_by_all}
@@ -29,7 +29,9 @@ use Rattle.wt_text_edit_laws.specs.Contents.{content_parts_of}
 use Rattle.wt_text_edit_laws.specs.LonePages.{of_items}
 use Rattle.wt_text_edit_laws.specs.NoCalls.{Brace, opening, closing, braces, NoneClose, NonePairs, CallsNothing}
 use Rattle.wt_text_edit_laws.specs.PageCuts.{EndsClosed, IsFreeBlock}
-use Rattle.wt_text_edit_laws.specs.TextBlocks.{TextBlock, source_of, block_tree}
+use Rattle.wt_text_edit_laws.specs.SignParts.{is_sign_end, ends_unopened, AreSigned, IsOnSign, IsLedTo}
+use Rattle.wt_text_edit_laws.specs.TextBetween.{EndsBy, is_end, AreEnded}
+use Rattle.wt_text_edit_laws.specs.TextBlocks.{TextBlock, a_paragraph, a_heading, source_of, block_tree}
 use Rattle.wt_called_edit_laws.specs.AllTold.{IsBesideNoCall, AreNoFunctions, IsBesideTexts}
 use Rattle.wt_called_edit_laws.specs.Covered.{IsBeside, IfGroup, NoGroupAt, NoneGroupAt}
 use Rattle.wt_called_edit_laws.specs.Groups.{called_tree}
@@ -40,12 +42,14 @@ use Rattle.wt_called_edit_laws.proofs.AllTold.Scans.{Decided, Asked, Answered, b
 
 -- ---- what is asked of each
 
--- Behind these items the lines of a block are the page's own: neither the line break before them, nor the marks that begin them, nor what is in them or
--- ends them comes from a call; no call that is text has a byte of them, and no two braces that open come before two that close in them.
+-- Behind these items and the marks that begin them the lines of a block are the page's own: neither what is in them nor the line break that ends them
+-- comes from a call; before them the page is ended for the block; no call that is text has a byte of them, and no two braces that open come before two that
+-- close in them.
 pub record IsOwnBehind (e : Expanded) (front : List Item) (t : Told) : Type 0 where
-  pub ends : last_of None front ≡ None
-  pub own : AreOfPage ((lined t).marks ++ joined ((lined t).first ∷ (lined t).more))
+  pub own : AreOfPage (joined ((lined t).first ∷ (lined t).more))
+  pub some : 1 ≤ length (content (joined ((lined t).first ∷ (lined t).more)))
   pub calm : CallsNothing (content (joined ((lined t).first ∷ (lined t).more)))
+  pub led : IsLedTo (text_from e.outer None (front ++ (lined t).marks)) (lined t).block (lined t).text
   pub beside : IsBesideTexts e front t
 
 -- no node in it is empty, and by itself it isn't tangled
@@ -140,26 +144,48 @@ beside_decided from to (s ∷ ss) =
 
 pub texts_decided : (e : Expanded) (front : List Item) (t : Told) → Decided (IsBesideTexts e front t)
 texts_decided e front t =
-    let from : ℕ = length (text_from e.outer None front) in
-    beside_decided from (from + length (sources ((lined t).marks ++ joined ((lined t).first ∷ (lined t).more)))) e.text_calls
-
-pub calm_decided : (xs : List Item) → Decided (CallsNothing xs)
-calm_decided xs = pairs_decided (braces (map sign xs))
+    let from : ℕ = length (text_from e.outer None (front ++ (lined t).marks)) in
+    beside_decided from (from + length (sources (joined ((lined t).first ∷ (lined t).more)))) e.text_calls
 
 pub functions_decided : (xs : List Item) → Decided (AreNoFunctions xs)
 functions_decided [] = inl tt
 functions_decided (x ∷ xs) = both_decided (IsNoFunction x) (AreNoFunctions xs) (function_decided x) (functions_decided xs)
 
-pub beside_call_decided : (front : List Item) (t : Told) → Decided (IsBesideNoCall front t)
-beside_call_decided front t =
-    by (none_decided (last_of None front)) (own_decided (lined t).marks) (own_decided (ending (joined ((lined t).first ∷ (lined t).more))))
+-- ---- what is before it
+
+by_decided : (test : ℕ → Bool) (bs : List ℕ) → Decided (EndsBy test bs)
+by_decided test [] = inl tt
+by_decided test (b ∷ []) = bool_decided (test b) true
+by_decided test (b ∷ c ∷ cs) = by_decided test (c ∷ cs)
+
+signed_decided : (bs : List ℕ) → Decided (AreSigned bs)
+signed_decided bs = by (most_decided 1 (length bs)) (by_decided is_sign_end bs) (bool_decided (ends_unopened true bs) true)
   where
-    by : Decided (last_of None front ≡ None) → Decided (AreOfPage (lined t).marks) → Decided (AreOfPage (ending (joined ((lined t).first ∷ (lined t).more))))
-        → Decided (IsBesideNoCall front t)
-    by (inl a) (inl b) (inl c) = inl (record { ends = a; marks = b; ending = c })
-    by (inr f) b c = inr (λ h. f h.ends)
-    by (inl a) (inr f) c = inr (λ h. f h.marks)
-    by (inl a) (inl b) (inr f) = inr (λ h. f h.ending)
+    by : Decided (1 ≤ length bs) → Decided (EndsBy is_sign_end bs) → Decided (ends_unopened true bs ≡ true) → Decided (AreSigned bs)
+    by (inl a) (inl b) (inl c) = inl (record { some = a; sign = b; unopened = c })
+    by (inr f) b c = inr (λ h. f h.some)
+    by (inl a) (inr f) c = inr (λ h. f h.sign)
+    by (inl a) (inl b) (inr f) = inr (λ h. f h.unopened)
+
+on_sign_decided : (k : TextBlock) (q : List ℕ) → Decided (IsOnSign k q)
+on_sign_decided a_paragraph [] = inl tt
+on_sign_decided a_paragraph (b ∷ q) = bool_decided (b == 125) false
+on_sign_decided (a_heading s) q = most_decided 1 s.level
+
+led_decided : (bs : List ℕ) (k : TextBlock) (q : List ℕ) → Decided (IsLedTo bs k q)
+led_decided bs k q =
+    or_decided (AreEnded bs) (AreSigned bs × IsOnSign k q) (by_decided is_end bs)
+    (both_decided (AreSigned bs) (IsOnSign k q) (signed_decided bs) (on_sign_decided k q))
+
+pub beside_call_decided : (e : Expanded) (front : List Item) (t : Told) → Decided (IsBesideNoCall e front t)
+beside_call_decided e front t =
+    by (led_decided (text_from e.outer None (front ++ (lined t).marks)) (lined t).block (lined t).text) (own_decided (ending (joined ((lined t).first ∷ (lined t).more))))
+  where
+    by : Decided (IsLedTo (text_from e.outer None (front ++ (lined t).marks)) (lined t).block (lined t).text)
+        → Decided (AreOfPage (ending (joined ((lined t).first ∷ (lined t).more)))) → Decided (IsBesideNoCall e front t)
+    by (inl a) (inl b) = inl (record { led = a; ending = b })
+    by (inr f) b = inr (λ h. f h.led)
+    by (inl a) (inr f) = inr (λ h. f h.ending)
 
 -- ---- so its lines are the page's own
 
@@ -167,36 +193,40 @@ pub own_both : (xs ys : List Item) → AreOfPage xs → AreOfPage ys → AreOfPa
 own_both [] ys h g = g
 own_both (x ∷ xs) ys h g = (h.0, h.1, own_both xs ys h.2 g)
 
-own_of : (xs : List Item) → AllFrom None xs → AreNoFunctions xs → AreOfPage xs
+pub own_of : (xs : List Item) → AllFrom None xs → AreNoFunctions xs → AreOfPage xs
 own_of [] h g = tt
 own_of (x ∷ xs) h g = (h.0, g.0, own_of xs h.1 g.1)
 
-pub own_behind : (e : Expanded) (front : List Item) (t : Told) → AllFrom None (content (joined ((lined t).first ∷ (lined t).more))) → IsBesideNoCall front t
-    → AreNoFunctions (content (joined ((lined t).first ∷ (lined t).more))) → CallsNothing (content (joined ((lined t).first ∷ (lined t).more))) → IsBesideTexts e front t
-    → IsOwnBehind e front t
-own_behind e front t own b f c d =
+pub own_behind : (e : Expanded) (front : List Item) (t : Told) → AllFrom None (content (joined ((lined t).first ∷ (lined t).more))) → IsBesideNoCall e front t
+    → 1 ≤ length (content (joined ((lined t).first ∷ (lined t).more))) → AreNoFunctions (content (joined ((lined t).first ∷ (lined t).more)))
+    → CallsNothing (content (joined ((lined t).first ∷ (lined t).more))) → IsBesideTexts e front t → IsOwnBehind e front t
+own_behind e front t own b some f c d =
     let lines : List Item = joined ((lined t).first ∷ (lined t).more) in
     let mine : AreOfPage (content lines) = own_of (content lines) own f in
     record {
-      ends = b.ends;
-      own = own_both (lined t).marks lines b.marks (subst AreOfPage (content_ending lines) (own_both (content lines) (ending lines) mine b.ending));
+      own = subst AreOfPage (content_ending lines) (own_both (content lines) (ending lines) mine b.ending);
+      some = some;
       calm = c;
+      led = b.led;
       beside = d;
     }
 
 place_decided : (e : Expanded) (front : List Item) (t : Told) → Decided (IsOwnBehind e front t)
 place_decided e front t =
     let own : List Item = joined ((lined t).first ∷ (lined t).more) in
-    let all : List Item = (lined t).marks ++ own in
-    by (none_decided (last_of None front)) (own_decided all) (pairs_decided (braces (map sign (content own)))) (texts_decided e front t)
+    by (own_decided own) (most_decided 1 (length (content own))) (pairs_decided (braces (map sign (content own))))
+    (led_decided (text_from e.outer None (front ++ (lined t).marks)) (lined t).block (lined t).text) (texts_decided e front t)
   where
-    by : Decided (last_of None front ≡ None) → Decided (AreOfPage ((lined t).marks ++ joined ((lined t).first ∷ (lined t).more)))
-        → Decided (CallsNothing (content (joined ((lined t).first ∷ (lined t).more)))) → Decided (IsBesideTexts e front t) → Decided (IsOwnBehind e front t)
-    by (inl a) (inl b) (inl c) (inl d) = inl (record { ends = a; own = b; calm = c; beside = d })
-    by (inr f) b c d = inr (λ h. f h.ends)
-    by (inl a) (inr f) c d = inr (λ h. f h.own)
-    by (inl a) (inl b) (inr f) d = inr (λ h. f h.calm)
-    by (inl a) (inl b) (inl c) (inr f) = inr (λ h. f h.beside)
+    by : Decided (AreOfPage (joined ((lined t).first ∷ (lined t).more))) → Decided (1 ≤ length (content (joined ((lined t).first ∷ (lined t).more))))
+        → Decided (CallsNothing (content (joined ((lined t).first ∷ (lined t).more))))
+        → Decided (IsLedTo (text_from e.outer None (front ++ (lined t).marks)) (lined t).block (lined t).text) → Decided (IsBesideTexts e front t)
+        → Decided (IsOwnBehind e front t)
+    by (inl a) (inl b) (inl c) (inl d) (inl g) = inl (record { own = a; some = b; calm = c; led = d; beside = g })
+    by (inr f) b c d g = inr (λ h. f h.own)
+    by (inl a) (inr f) c d g = inr (λ h. f h.some)
+    by (inl a) (inl b) (inr f) d g = inr (λ h. f h.calm)
+    by (inl a) (inl b) (inl c) (inr f) g = inr (λ h. f h.led)
+    by (inl a) (inl b) (inl c) (inl d) (inr f) = inr (λ h. f h.beside)
 
 -- ---- groups
 

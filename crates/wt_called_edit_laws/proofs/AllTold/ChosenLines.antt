@@ -1,5 +1,5 @@
 -- Blocks that are chosen among the lines of an expanded page, each by the items before it: so they are told one behind the other.
-use Rattle.std.proofs.Common.{arith, ◌≡◌, inl, inr, ℕ, ◌+◌, None, Option, List, [], ◌∷◌, ◌++◌, length, map, take, refl, sym, ap, ap₂, ◌∙◌, subst, append_assoc, length-append}
+use Rattle.std.proofs.Common.{arith, ◌≡◌, ◌≤◌, inl, inr, ℕ, ◌+◌, None, Option, List, [], ◌∷◌, ◌++◌, length, map, take, refl, sym, ap, ap₂, ◌∙◌, subst, append_assoc, length-append}
 use Rattle.std.proofs.lemmas.Grind.{flat_map-append}
 use Rattle.wt_span.specs.Items.{Item, sources}
 use Rattle.wt_span.specs.Origins.{OuterCall, Span}
@@ -7,6 +7,7 @@ use Rattle.wt_annotated.specs.Seams.{last_of, text_from}
 use Rattle.wt_annotated.proofs.Seams.{last_append, text_append_from}
 use Rattle.wt_expand.specs.PageCalls.{expanded_page}
 use Rattle.wt_expand.specs.Work.{Pages}
+use Rattle.wt_expand.proofs.PiecePlaces.{AllFrom}
 use Rattle.wt_inline.specs.Inside.{opened, opened_all}
 use Rattle.wt_lines.specs.Lines.{content}
 use Rattle.wt_page.specs.Lines.{ending}
@@ -15,18 +16,19 @@ use Rattle.wt_page_round_trip.proofs.OpenedPages.{AreOnes, opened_text}
 use Rattle.wt_tables.specs.Parts.{joined}
 use Rattle.wt_text_edit_laws.specs.BlockSpots.{BlockSpot, spots_source}
 use Rattle.wt_text_edit_laws.specs.PageCuts.{EndClosed, AreFree}
-use Rattle.wt_text_edit_laws.specs.TextBlocks.{source_of}
+use Rattle.wt_text_edit_laws.specs.SignParts.{IsLedTo}
+use Rattle.wt_text_edit_laws.specs.TextBlocks.{TextBlock, source_of}
+use Rattle.wt_text_edit_laws.proofs.Blocks.SignedParts.{led_rest}
 use Rattle.wt_called_edit_laws.specs.Covered.{NoGroupAt, AreInNoGroup}
 use Rattle.wt_called_edit_laws.specs.Groups.{called_tree}
-use Rattle.wt_called_edit_laws.specs.LinedAmong.{spots_on, end_on, AreOfPage, AreBeside, AreOwnLines, AreUntouched}
+use Rattle.wt_called_edit_laws.specs.LinedAmong.{spots_on, end_on, AreOfPage, AreBeside, AreOwnLines, AreLed, AreUntouched}
 use Rattle.wt_called_edit_laws.specs.PlacedLines.{LinedBlock, all_lines}
 use Rattle.wt_called_edit_laws.specs.ToldLines.{Told, a_paragraph_of, a_heading_on, lined}
 use Rattle.wt_called_edit_laws.specs.ToldTogether.{start_of, own_lines, told_starts, IsAmongNumbers}
 use Rattle.wt_called_edit_laws.proofs.Among.LinedParts.{of_front}
 use Rattle.wt_called_edit_laws.proofs.Among.OwnItems.{from_page}
-use Rattle.wt_called_edit_laws.proofs.Among.OwnSeams.{own_last, sources_size}
+use Rattle.wt_called_edit_laws.proofs.Among.OwnSeams.{own_last, own_size, text_size}
 use Rattle.wt_called_edit_laws.proofs.Cells.PlacedLines.{own_items, lines_joined}
-use Rattle.wt_called_edit_laws.proofs.PartTexts.{own_text}
 use Rattle.wt_called_edit_laws.proofs.AllTold.Chosen.{free_of, IsChosen, chosen}
 use Rattle.wt_called_edit_laws.proofs.AllTold.ClosedLines.{ends_any}
 use Rattle.wt_called_edit_laws.proofs.AllTold.Found.{size, size_both}
@@ -40,13 +42,13 @@ use Rattle.wt_called_edit_laws.proofs.AllTold.ToldStarts.{AreOwn}
 
 place_so : (pages : Pages) (page : List ℕ) (front : List Item) (t : Told) → IsChosen pages page front (without_before t) → IsChosen pages page front t
 place_so pages page front (a_paragraph_of b m f r) h = record {
-  place = record { ends = h.place.ends; own = h.place.own; calm = h.place.calm; beside = h.place.beside };
+  place = record { own = h.place.own; some = h.place.some; calm = h.place.calm; led = h.place.led; beside = h.place.beside };
   outside = h.outside;
   free = h.free;
   closed = h.closed;
 }
 place_so pages page front (a_heading_on b m l) h = record {
-  place = record { ends = h.place.ends; own = h.place.own; calm = h.place.calm; beside = h.place.beside };
+  place = record { own = h.place.own; some = h.place.some; calm = h.place.calm; led = h.place.led; beside = h.place.beside };
   outside = h.outside;
   free = h.free;
   closed = h.closed;
@@ -54,13 +56,13 @@ place_so pages page front (a_heading_on b m l) h = record {
 
 so_placed : (pages : Pages) (page : List ℕ) (front : List Item) (t : Told) → IsChosen pages page front t → IsChosen pages page front (without_before t)
 so_placed pages page front (a_paragraph_of b m f r) h = record {
-  place = record { ends = h.place.ends; own = h.place.own; calm = h.place.calm; beside = h.place.beside };
+  place = record { own = h.place.own; some = h.place.some; calm = h.place.calm; led = h.place.led; beside = h.place.beside };
   outside = h.outside;
   free = h.free;
   closed = h.closed;
 }
 so_placed pages page front (a_heading_on b m l) h = record {
-  place = record { ends = h.place.ends; own = h.place.own; calm = h.place.calm; beside = h.place.beside };
+  place = record { own = h.place.own; some = h.place.some; calm = h.place.calm; led = h.place.led; beside = h.place.beside };
   outside = h.outside;
   free = h.free;
   closed = h.closed;
@@ -80,26 +82,39 @@ record Behind (calls : List OuterCall) (front fr es : List Item) (at : ℕ) : Ty
   ends : last_of None fr ≡ None
   byte : at ≡ length (text_from calls None fr)
 
+text_behind : (calls : List OuterCall) (fr xs : List Item) → last_of None fr ≡ None → text_from calls None (fr ++ xs) ≡ text_from calls None fr ++ text_from calls None xs
+text_behind calls fr xs e = text_append_from calls None fr xs ∙ ap (λ (o : Option ℕ). text_from calls None fr ++ text_from calls o xs) e
+
 pub last_suffix : (xs ys : List Item) → last_of None (xs ++ ys) ≡ None → last_of None ys ≡ None
 last_suffix xs [] e = refl
 last_suffix xs (y ∷ ys) e = sym (last_append None xs (y ∷ ys)) ∙ e
 
-text_behind : (calls : List OuterCall) (fr xs : List Item) → last_of None fr ≡ None
-    → length (text_from calls None (fr ++ xs)) ≡ length (text_from calls None fr) + length (text_from calls None xs)
-text_behind calls fr xs e =
-    ap length (text_append_from calls None fr xs) ∙ length-append (text_from calls None fr) (text_from calls (last_of None fr) xs)
-    ∙ ap (λ (o : Option ℕ). length (text_from calls None fr) + length (text_from calls o xs)) e
+-- some of the page's own end with one
+some_last : (o : Option ℕ) (xs : List Item) → 1 ≤ length xs → AllFrom None xs → last_of o xs ≡ None
+some_last o [] some h = absurd (omega (arith, some))
+some_last o (x ∷ xs) some h = own_last (x ∷ xs) h
 
 -- the items before a block's lines
 front_of : (front : List Item) (t : Told) → behind_lines front (lined t).before ≡ front ++ joined (lined t).before
 front_of front t = behind_joined front (lined t).before
 
-line_byte : (calls : List OuterCall) (front fr es : List Item) (at : ℕ) (t : Told) → Behind calls front fr es at
-    → at + length (text_from calls None (es ++ joined (lined t).before)) ≡ length (text_from calls None (behind_lines front (lined t).before))
-line_byte calls front fr es at t b =
+-- what is on the page before a block, behind what is before it
+block_text : (calls : List OuterCall) (front fr es : List Item) (at : ℕ) (t : Told) → Behind calls front fr es at
+    → text_from calls None (behind_lines front (lined t).before ++ (lined t).marks)
+    ≡ text_from calls None fr ++ text_from calls None ((es ++ joined (lined t).before) ++ (lined t).marks)
+block_text calls front fr es at t b =
     let j : List Item = joined (lined t).before in
-    let all : behind_lines front (lined t).before ≡ fr ++ (es ++ j) = front_of front t ∙ ap (λ (zs : List Item). zs ++ j) b.whole ∙ append_assoc fr es j in
-    omega (arith, b.byte, ap (λ (zs : List Item). length (text_from calls None zs)) all, text_behind calls fr (es ++ j) b.ends)
+    let m : List Item = (lined t).marks in
+    let here : behind_lines front (lined t).before ≡ fr ++ (es ++ j) = front_of front t ∙ ap (λ (zs : List Item). zs ++ j) b.whole ∙ append_assoc fr es j in
+    ap (λ (zs : List Item). text_from calls None (zs ++ m)) here ∙ ap (text_from calls None) (append_assoc fr (es ++ j) m) ∙ text_behind calls fr ((es ++ j) ++ m) b.ends
+
+-- where a block begins
+spot_byte : (calls : List OuterCall) (front fr es : List Item) (at : ℕ) (t : Told) → Behind calls front fr es at
+    → at + length (text_from calls None ((es ++ joined (lined t).before) ++ (lined t).marks))
+    ≡ length (text_from calls None (behind_lines front (lined t).before ++ (lined t).marks))
+spot_byte calls front fr es at t b =
+    let own : List ℕ = text_from calls None ((es ++ joined (lined t).before) ++ (lined t).marks) in
+    omega (arith, b.byte, ap length (block_text calls front fr es at t b), length-append (text_from calls None fr) own)
 
 -- its lines, and what is left of them
 pub lines_of_own : (t : Told) → joined (own_lines t) ≡ ((lined t).marks ++ content (own_items (lined t))) ++ ending (own_items (lined t))
@@ -108,26 +123,28 @@ lines_of_own t =
     append_assoc b.marks b.first (joined b.more) ∙ ap (λ (zs : List Item). b.marks ++ zs) (sym (content_ending (own_items b)))
     ∙ sym (append_assoc b.marks (content (own_items b)) (ending (own_items b)))
 
-own_content : (t : Told) → AreOfPage ((lined t).marks ++ own_items (lined t)) → AreOfPage ((lined t).marks ++ content (own_items (lined t)))
+own_content : (t : Told) → AreOfPage (own_items (lined t)) → AreOfPage (content (own_items (lined t)))
 own_content t h =
-    let b : LinedBlock = lined t in
-    of_front (b.marks ++ content (own_items b)) (ending (own_items b))
-    (subst AreOfPage (ap (λ (zs : List Item). b.marks ++ zs) (sym (content_ending (own_items b))) ∙ sym (append_assoc b.marks (content (own_items b)) (ending (own_items b)))) h)
+    let own : List Item = own_items (lined t) in
+    of_front (content own) (ending own) (subst AreOfPage (sym (content_ending own)) h)
 
-next_behind : (calls : List OuterCall) (front fr es : List Item) (at : ℕ) (t : Told) → Behind calls front fr es at
-    → last_of None (behind_lines front (lined t).before) ≡ None → AreOfPage ((lined t).marks ++ own_items (lined t))
+next_behind : (calls : List OuterCall) (front fr es : List Item) (at : ℕ) (t : Told) → Behind calls front fr es at → AreOfPage (own_items (lined t))
+    → 1 ≤ length (content (own_items (lined t)))
     → Behind calls (behind_lines (behind_lines front (lined t).before) (own_lines t))
     (behind_lines front (lined t).before ++ ((lined t).marks ++ content (own_items (lined t)))) (ending (own_items (lined t)))
-    ((at + length (text_from calls None (es ++ joined (lined t).before))) + length (sources ((lined t).marks ++ content (own_items (lined t)))))
-next_behind calls front fr es at t b ends own =
+    ((at + length (text_from calls None ((es ++ joined (lined t).before) ++ (lined t).marks))) + length (sources (content (own_items (lined t)))))
+next_behind calls front fr es at t b own some =
     let here : List Item = behind_lines front (lined t).before in
-    let mine : List Item = (lined t).marks ++ content (own_items (lined t)) in
-    let is : AreOfPage mine = own_content t own in
-    let text_is : text_from calls None mine ≡ sources mine = own_text calls None mine (from_page mine is) in
+    let m : List Item = (lined t).marks in
+    let mine : List Item = content (own_items (lined t)) in
+    let is : AllFrom None mine = from_page mine (own_content t own) in
+    let end : Option ℕ = last_of None (here ++ m) in
+    let all = ap (λ (zs : List Item). length (text_from calls None zs)) (sym (append_assoc here m mine)) ∙ text_size calls None (here ++ m) mine in
+    let size = own_size calls end mine is in
     record {
-      whole = behind_joined here (own_lines t) ∙ ap (λ (zs : List Item). here ++ zs) (lines_of_own t) ∙ sym (append_assoc here mine (ending (own_items (lined t))));
-      ends = last_append None here mine ∙ ap (λ (o : Option ℕ). last_of o mine) ends ∙ own_last mine (from_page mine is);
-      byte = omega (arith, line_byte calls front fr es at t b, text_behind calls here mine ends, ap length text_is);
+      whole = behind_joined here (own_lines t) ∙ ap (λ (zs : List Item). here ++ zs) (lines_of_own t) ∙ sym (append_assoc here (m ++ mine) (ending (own_items (lined t))));
+      ends = ap (last_of None) (sym (append_assoc here m mine)) ∙ last_append None (here ++ m) mine ∙ some_last end mine some is;
+      byte = omega (arith, spot_byte calls front fr es at t b, all, size);
     }
 
 -- ---- the lines of all
@@ -137,30 +154,30 @@ KnownLines pages page at es ts =
     AreOwnLines (map lined ts)
     × AreUntouched (expanded_page pages page).outer (expanded_page pages page).text_calls at es (map lined ts)
     × AreFree (spots_on (expanded_page pages page).outer es (map lined ts))
+    × AreLed (spots_on (expanded_page pages page).outer es (map lined ts))
 
 known_from : (pages : Pages) (page : List ℕ) (front fr es : List Item) (at : ℕ) (ts : List Told) → Behind (expanded_page pages page).outer front fr es at
     → AllMeet (chosen pages page) front ts → KnownLines pages page at es ts
-known_from pages page front fr es at [] b h = (tt, tt, tt)
+known_from pages page front fr es at [] b h = (tt, tt, tt, tt)
 known_from pages page front fr es at (t ∷ ts) b h =
     let calls : List OuterCall = (expanded_page pages page).outer in
     let spans : List Span = (expanded_page pages page).text_calls in
     let here : List Item = behind_lines front (lined t).before in
     let own : List Item = own_items (lined t) in
     let c : IsChosen pages page here t = place_so pages page here t h.0 in
-    let line : ℕ = at + length (text_from calls None (es ++ joined (lined t).before)) in
+    let k : TextBlock = (lined t).block in
+    let q : List ℕ = (lined t).text in
+    let before : List ℕ = text_from calls None ((es ++ joined (lined t).before) ++ (lined t).marks) in
+    let from : ℕ = at + length before in
     let rest = known_from pages page (behind_lines here (own_lines t)) (here ++ ((lined t).marks ++ content own)) (ending own)
-    (line + length (sources ((lined t).marks ++ content own))) ts (next_behind calls front fr es at t b c.place.ends c.place.own) h.1 in (
+    (from + length (sources (content own))) ts (next_behind calls front fr es at t b c.place.own c.place.some) h.1 in (
+      (c.place.own, c.place.calm, rest.0),
+      (subst (λ (n : ℕ). AreBeside n (n + length (sources own)) spans) (sym (spot_byte calls front fr es at t b)) c.place.beside, rest.1),
+      (free_of k q c.free, rest.2),
       (
-        last_suffix front (joined (lined t).before) (ap (last_of None) (sym (front_of front t)) ∙ c.place.ends),
-        c.place.own,
-        c.place.calm,
-        rest.0,
+        led_rest (text_from calls None fr) before k q (subst (λ (bs : List ℕ). IsLedTo bs k q) (block_text calls front fr es at t b) c.place.led),
+        rest.3,
       ),
-      (
-        subst (λ (n : ℕ). AreBeside n (n + length (sources ((lined t).marks ++ own))) spans) (sym (line_byte calls front fr es at t b)) c.place.beside,
-        rest.1,
-      ),
-      (free_of (lined t).block (lined t).text c.free, rest.2),
     )
 
 page_start : (calls : List OuterCall) → Behind calls [] [] [] 0
@@ -170,6 +187,7 @@ pub known_lines : (pages : Pages) (page : List ℕ) (ts : List Told) → AllMeet
     → AreOwnLines (map lined ts)
     × AreUntouched (expanded_page pages page).outer (expanded_page pages page).text_calls 0 [] (map lined ts)
     × AreFree (spots_on (expanded_page pages page).outer [] (map lined ts))
+    × AreLed (spots_on (expanded_page pages page).outer [] (map lined ts))
 known_lines pages page ts h = known_from pages page [] [] [] 0 ts (page_start (expanded_page pages page).outer) h
 
 -- a line break behind each is read as one
@@ -191,37 +209,10 @@ known_closed pages page ts behind h = closed_from pages page [] [] ts behind h
 
 -- ---- no group has the first byte of one
 
--- where a block begins, and where it ends
-spot_byte : (calls : List OuterCall) (front fr es : List Item) (at : ℕ) (t : Told) → Behind calls front fr es at
-    → last_of None (behind_lines front (lined t).before) ≡ None
-    → at + length (text_from calls None ((es ++ joined (lined t).before) ++ (lined t).marks))
-    ≡ length (text_from calls None (behind_lines front (lined t).before ++ (lined t).marks))
-spot_byte calls front fr es at t b ends =
-    let j : List Item = joined (lined t).before in
-    let here : List Item = behind_lines front (lined t).before in
-    let same : here ≡ fr ++ (es ++ j) = front_of front t ∙ ap (λ (zs : List Item). zs ++ j) b.whole ∙ append_assoc fr es j in
-    let all : here ++ (lined t).marks ≡ fr ++ ((es ++ j) ++ (lined t).marks) =
-    ap (λ (zs : List Item). zs ++ (lined t).marks) same ∙ append_assoc fr (es ++ j) (lined t).marks in
-    omega (arith, b.byte, ap (λ (zs : List Item). length (text_from calls None zs)) all, text_behind calls fr ((es ++ j) ++ (lined t).marks) b.ends)
-
-spot_end : (calls : List OuterCall) (front fr es : List Item) (at : ℕ) (t : Told) → Behind calls front fr es at
-    → last_of None (behind_lines front (lined t).before) ≡ None → AreOfPage ((lined t).marks ++ own_items (lined t))
-    → sources (content (own_items (lined t))) ≡ source_of (lined t).block (lined t).text
-    → (at + length (text_from calls None (es ++ joined (lined t).before))) + length (sources ((lined t).marks ++ content (own_items (lined t))))
-    ≡ (at + length (text_from calls None ((es ++ joined (lined t).before) ++ (lined t).marks))) + length (source_of (lined t).block (lined t).text)
-spot_end calls front fr es at t b ends own is =
-    let m : List Item = (lined t).marks in
-    let here : List Item = behind_lines front (lined t).before in
-    let marks : AreOfPage m = of_front m (own_items (lined t)) own in
-    omega (
-      arith,
-      line_byte calls front fr es at t b,
-      spot_byte calls front fr es at t b ends,
-      text_behind calls here m ends,
-      ap length (own_text calls None m (from_page m marks)),
-      sources_size m (content (own_items (lined t))),
-      ap length is,
-    )
+-- where a block ends
+spot_end : (at : ℕ) (t : Told) → sources (content (own_items (lined t))) ≡ source_of (lined t).block (lined t).text
+    → at + length (sources (content (own_items (lined t)))) ≡ at + length (source_of (lined t).block (lined t).text)
+spot_end at t is = ap (λ (bs : List ℕ). at + length bs) is
 
 outside_from : (pages : Pages) (page : List ℕ) (front fr es : List Item) (at : ℕ) (ts : List Told) → Behind (expanded_page pages page).outer front fr es at
     → AllMeet (chosen pages page) front ts → AreOwn (map lined ts)
@@ -233,11 +224,11 @@ outside_from pages page front fr es at (t ∷ ts) b h o =
     let own : List Item = own_items (lined t) in
     let c : IsChosen pages page here t = place_so pages page here t h.0 in
     let ss : List BlockSpot = spots_on calls (ending own) (map lined ts) in
+    let from : ℕ = at + length (text_from calls None ((es ++ joined (lined t).before) ++ (lined t).marks)) in
     let rest = outside_from pages page (behind_lines here (own_lines t)) (here ++ ((lined t).marks ++ content own)) (ending own)
-    ((at + length (text_from calls None (es ++ joined (lined t).before))) + length (sources ((lined t).marks ++ content own))) ts
-    (next_behind calls front fr es at t b c.place.ends c.place.own) h.1 o.1 in (
-      subst (λ (n : ℕ). NoGroupAt n (called_tree pages page)) (sym (spot_byte calls front fr es at t b c.place.ends)) c.outside,
-      subst (λ (n : ℕ). AreInNoGroup n ss (called_tree pages page)) (spot_end calls front fr es at t b c.place.ends c.place.own o.0) rest,
+    (from + length (sources (content own))) ts (next_behind calls front fr es at t b c.place.own c.place.some) h.1 o.1 in (
+      subst (λ (n : ℕ). NoGroupAt n (called_tree pages page)) (sym (spot_byte calls front fr es at t b)) c.outside,
+      subst (λ (n : ℕ). AreInNoGroup n ss (called_tree pages page)) (spot_end from t o.0) rest,
     )
 
 pub in_no_group : (pages : Pages) (page : List ℕ) (ts : List Told) → AllMeet (chosen pages page) [] ts → AreOwn (map lined ts)
@@ -311,15 +302,15 @@ starts_from_so pages page all front fr es at (t ∷ ts) behind b h o e ones =
     let first : start_of (size front) t ≡ size (here ++ (lined t).marks) = omega (arith, before_size, size_both here (lined t).marks) in
     let first_byte : byte_at calls all (start_of (size front) t) ≡ at + length (text_from calls None ((es ++ joined (lined t).before) ++ (lined t).marks)) =
     ap (byte_at calls all) first ∙ byte_of calls (here ++ (lined t).marks) (own ++ joined tail) all parts.0 ones
-    ∙ sym (spot_byte calls front fr es at t b c.place.ends) in
+    ∙ sym (spot_byte calls front fr es at t b) in
     let later : size front + size (joined (lined t).before) + size (joined (own_lines t)) ≡ size next =
     omega (arith, before_size, ap size (behind_joined here (own_lines t)), size_both here (joined (own_lines t))) in
-    let rest = starts_from_so pages page all next (here ++ ((lined t).marks ++ content own)) (ending own)
-    ((at + length (text_from calls None (es ++ joined (lined t).before))) + length (sources ((lined t).marks ++ content own))) ts behind
-    (next_behind calls front fr es at t b c.place.ends c.place.own) h.1 o.1 parts.1 ones in
+    let from : ℕ = at + length (text_from calls None ((es ++ joined (lined t).before) ++ (lined t).marks)) in
+    let rest = starts_from_so pages page all next (here ++ ((lined t).marks ++ content own)) (ending own) (from + length (sources (content own))) ts behind
+    (next_behind calls front fr es at t b c.place.own c.place.some) h.1 o.1 parts.1 ones in
     ap₂ (λ (n : ℕ) (ns : List ℕ). n ∷ ns) first_byte
     (ap (λ (n : ℕ). map (byte_at calls all) (told_starts n ts)) later ∙ rest
-    ∙ ap (λ (n : ℕ). spot_starts n (spots_on calls (ending own) (map lined ts))) (spot_end calls front fr es at t b c.place.ends c.place.own o.0))
+    ∙ ap (λ (n : ℕ). spot_starts n (spots_on calls (ending own) (map lined ts))) (spot_end from t o.0))
 
 pub starts_so : (pages : Pages) (page : List ℕ) (all : List Item) (ts : List Told) (behind : Lines) → AllMeet (chosen pages page) [] ts → AreOwn (map lined ts)
     → all ≡ joined (all_lines (map lined ts) behind) → AreOnes all

@@ -1,6 +1,6 @@
 -- A block of an expanded page whose lines are the page's own: the marks that begin it are ended; and where nothing is behind it, its node goes up to the
 -- page's end, and a line break behind it is read as one, if it holds no mark that nothing ends.
-use Rattle.std.proofs.Common.{arith, ◌≡◌, ◌≤◌, ℕ, ◌+◌, true, false, Option, None, List, [], ◌∷◌, ◌++◌, length, map, refl, sym, ap, ap₂, ◌∙◌, subst, append-nil, append_assoc}
+use Rattle.std.proofs.Common.{arith, ◌≡◌, ◌≤◌, ℕ, ◌+◌, true, false, Option, None, List, [], ◌∷◌, ◌++◌, length, map, refl, sym, ap, ap₂, ◌∙◌, subst, append-nil, append_assoc, length-append}
 use Rattle.std.specs.Prelude.{◌==◌}
 use Rattle.std.specs.Str.{IsUtf8}
 use Rattle.wt_span.specs.Braces.{Members, lexeme, call, none, more, width_of_all}
@@ -39,7 +39,7 @@ use Rattle.wt_called_edit_laws.specs.ToldLines.{Told, lined}
 use Rattle.wt_called_edit_laws.specs.ToldTogether.{start_of}
 use Rattle.wt_called_edit_laws.proofs.Among.BlockAt.{calls_of, IsRest, have_front, have_behind}
 use Rattle.wt_called_edit_laws.proofs.Among.Flattened.{flat_all}
-use Rattle.wt_called_edit_laws.proofs.Among.LinedParts.{line_front, own_breaks, of_behind, of_front, page_rest, page_text}
+use Rattle.wt_called_edit_laws.proofs.Among.LinedParts.{block_front, own_breaks, of_behind, page_rest, page_text}
 use Rattle.wt_called_edit_laws.proofs.Among.Members.{flat_widths, words_size}
 use Rattle.wt_called_edit_laws.proofs.Among.OwnItems.{from_page}
 use Rattle.wt_called_edit_laws.proofs.Among.OwnSeams.{own_last, text_size, given}
@@ -83,19 +83,20 @@ nothing_left pages page p ys h =
 -- ---- the lines in the page
 
 own_there : (pages : Pages) (page : List ℕ) (o : Told) (rest : Lines) → full_lines (expanded_page pages page).items ≡ all_lines (lined o ∷ []) rest
-    → last_of None (joined (lined o).before) ≡ None → AreOfPage ((lined o).marks ++ own_items (lined o))
-    → IsBesideTexts (expanded_page pages page) (joined (lined o).before) o → LineThere pages page (lined o).marks (own_items (lined o)) (joined rest)
-own_there pages page o rest are ends own beside =
+    → AreOfPage (own_items (lined o)) → 1 ≤ length (content (own_items (lined o)))
+    → IsBesideTexts (expanded_page pages page) (joined (lined o).before) o → LineThere pages page (own_items (lined o)) (joined rest)
+own_there pages page o rest are own some beside =
     let b : LinedBlock = lined o in
     let ls : Lines = all_lines (b ∷ []) rest in
     let r : IsRest pages page 0 ([] ++ joined ls) (page_items page) = page_rest pages page ls (page_joined pages page ls are) in
-    let there : IsRest pages page 0 (line_front [] b ++ (b.marks ++ (own_items b ++ joined rest))) (page_items page) =
+    let there : IsRest pages page 0 (block_front [] b ++ (own_items b ++ joined rest)) (page_items page) =
     subst (λ (zs : List Item). IsRest pages page 0 zs (page_items page)) (line_items [] b rest) r in
-    let n : ℕ = length (text_from (calls_of pages page) None (joined b.before)) in
+    let n : ℕ = length (text_from (calls_of pages page) None (joined b.before ++ b.marks)) in
     let z : n ≡ 0 + n = omega arith in
-    line_there pages page 0 (line_front [] b) b.marks (own_items b) (joined rest) (page_items page) there ends (of_front b.marks (own_items b) own)
-    (of_behind b.marks (own_items b) own)
-    (subst (λ (m : ℕ). AreBeside m (m + length (sources (b.marks ++ own_items b))) (expanded_page pages page).text_calls) z beside)
+    let long = ap length (content_ending (own_items b)) in
+    let both = length-append (content (own_items b)) (ending (own_items b)) in
+    line_there pages page 0 (block_front [] b) (own_items b) (joined rest) (page_items page) there (omega (arith, some, long, both)) own
+    (subst (λ (m : ℕ). AreBeside m (m + length (sources (own_items b))) (expanded_page pages page).text_calls) z beside)
 
 -- ---- nothing is behind it
 
@@ -121,15 +122,14 @@ last_own pages page o rest are p e =
     let b : LinedBlock = lined o in
     let own : List Item = own_items b in
     let end : List Item = ending own in
-    let t : LineThere pages page b.marks own (joined rest) = own_there pages page o rest are p.ends p.own p.beside in
-    let mine : AreOfPage own = of_behind b.marks own p.own in
-    let its : AreOfPage end = of_behind (content own) end (subst AreOfPage (sym (content_ending own)) mine) in
+    let t : LineThere pages page own (joined rest) = own_there pages page o rest are p.own p.some p.beside in
+    let its : AreOfPage end = of_behind (content own) end (subst AreOfPage (sym (content_ending own)) p.own) in
     let text : text_from calls None (end ++ joined rest) ≡ sources end ++ text_from calls None (joined rest) =
     text_append_from calls None end (joined rest)
     ∙ ap₂ (λ (bs : List ℕ) (u : Option ℕ). bs ++ text_from calls u (joined rest)) (own_text calls None end (from_page end its)) (own_last end (from_page end its)) in
     let none : sources end ++ text_from calls None (joined rest) ≡ [] = sym text ∙ e in
     let have : HaveBytes (page_items page) = subst HaveBytes (sym (page_from page)) (from_has false 0 page) in
-    let have_own : HaveBytes own = have_front own t.behind (have_behind b.marks (own ++ t.behind) (have_behind t.front (b.marks ++ (own ++ t.behind)) (subst HaveBytes t.is have))) in
+    let have_own : HaveBytes own = have_front own t.behind (have_behind t.front (own ++ t.behind) (subst HaveBytes t.is have)) in
     let no_end : end ≡ [] =
     no_bytes end (have_behind (content own) end (subst HaveBytes (sym (content_ending own)) have_own)) (no_first (sources end) (text_from calls None (joined rest)) none) in
     let no_behind : t.behind ≡ [] =
@@ -140,10 +140,9 @@ last_own pages page o rest are p e =
     let line : own ++ t.behind ≡ content own = ap (λ (xs : List Item). own ++ xs) no_behind ∙ append-nil own ∙ own_is in
     let expanded : own ++ joined rest ≡ content own = ap (λ (xs : List Item). own ++ xs) no_lines ∙ append-nil own ∙ own_is in
     record {
-      front = t.front ++ b.marks;
-      is = t.is ∙ ap (λ (xs : List Item). t.front ++ (b.marks ++ xs)) line ∙ sym (append_assoc t.front b.marks (content own));
-      ends = page_joined pages page (all_lines (b ∷ []) rest) are ∙ line_items [] b rest ∙ ap (λ (xs : List Item). joined b.before ++ (b.marks ++ xs)) expanded
-          ∙ sym (append_assoc (joined b.before) b.marks (content own));
+      front = t.front;
+      is = t.is ∙ ap (λ (xs : List Item). t.front ++ xs) line;
+      ends = page_joined pages page (all_lines (b ∷ []) rest) are ∙ line_items [] b rest ∙ ap (λ (xs : List Item). (joined b.before ++ b.marks) ++ xs) expanded;
     }
 
 pub own_closed : (pages : Pages) (page : List ℕ) (o : Told) (rest : Lines) (n : ℕ) → full_lines (expanded_page pages page).items ≡ all_lines (lined o ∷ []) rest
@@ -171,7 +170,7 @@ own_closed pages page o rest n are p some seen k is_source c = (
         let closed : ClosedLast own = closed_behind (joined b.before ++ b.marks) own (subst ClosedLast i.ends (last_closed xs (c e))) in
         let lines : Lines = all_lines (b ∷ []) rest in
         let runs : AreRuns goes_on lines xs = subst (λ (ms : Lines). AreRuns goes_on ms xs) are (runs_are goes_on xs) in
-        let r : Round b rest = round b rest xs some runs (own_breaks (own_items b) (of_behind b.marks (own_items b) p.own)) in
+        let r : Round b rest = round b rest xs some runs (own_breaks (own_items b) p.own) in
         let alone : page_items (sources own) ≡ own = own_alone i.front own [] (ap page_items (parts_are page i.front own [] all) ∙ all) (seen r) in
         let own_runs : AreRuns goes_on (b.first ∷ b.more) (own_items b) =
         subst (λ (ms : Lines). AreRuns goes_on ms (own_items b)) r.own_are (runs_are goes_on (own_items b)) in

@@ -6,6 +6,8 @@ use Rattle.std.specs.Str.{IsUtf8}
 use Rattle.std.specs.List.{list_all}
 use Rattle.wt_span.specs.Items.{Item, char, whole, is_mark, sign, sources}
 use Rattle.wt_span.specs.Origins.{Expanded}
+use Rattle.wt_span.specs.Runs.{AreRuns}
+use Rattle.wt_span.proofs.RunLaws.{runs_are}
 use Rattle.wt_inline.specs.ItemTree.{ItemTree}
 use Rattle.wt_tree.specs.Tiling.{HasNoGroup}
 use Rattle.wt_tree.specs.Tree.{Tree, tree, Trees, none, more, label}
@@ -16,7 +18,7 @@ use Rattle.wt_commands.specs.Answers.{refusal_of_page}
 use Rattle.wt_expand.proofs.PiecePlaces.{AllFrom}
 use Rattle.wt_lines.specs.declared.kind.LineKind.TheVariants as line
 use Rattle.wt_lines.specs.Kinds.{kind_of_signs}
-use Rattle.wt_lines.specs.Lines.{content, full_lines}
+use Rattle.wt_lines.specs.Lines.{content, goes_on, full_lines}
 use Rattle.wt_tables.specs.Parts.{joined}
 use Rattle.wt_page.specs.Headings.{heading}
 use Rattle.wt_page.specs.Lines.{kind_at, ending}
@@ -31,7 +33,7 @@ use Rattle.wt_isolation.specs.TextCalls.{touches_text_call}
 use Rattle.wt_selser.specs.Edits.{is_tangled}
 use Rattle.wt_selser.specs.GroupFaults.{has_faulty_group}
 use Rattle.wt_text_edit_laws.specs.BlockSpots.{BlockSpot, spots_source}
-use Rattle.wt_called_edit_laws.specs.AllTold.{starts_in, text_on_a_sign, by_its_lines, beside_a_call, IsExcepted, IsOneOf, AllBlocksTold, IsBesideNoCall, AreNoFunctions, IsBesideTexts, holds_a_function, holds_a_pair}
+use Rattle.wt_called_edit_laws.specs.AllTold.{starts_in, text_on_a_sign, by_its_lines, beside_a_call, IsExcepted, IsOneOf, AllBlocksTold, IsBesideNoCall, AreNoFunctions, IsBesideTexts, holds_a_function}
 use Rattle.wt_text_edit_laws.proofs.Cuts.RowLines.{AllText}
 use Rattle.wt_text_edit_laws.proofs.Cuts.TextLines.{led_first, content_unled}
 use Rattle.wt_text_edit_laws.proofs.Paragraphs.Marks.{mark_sign, AreMarkSigns, kind_marks}
@@ -57,18 +59,18 @@ use Rattle.wt_called_edit_laws.specs.RowBlocks.{IsTextBlock, IsReachedAt, IsReac
 use Rattle.wt_called_edit_laws.specs.ToldAmong.{IsToldAmong}
 use Rattle.wt_called_edit_laws.specs.ToldLines.{Told, lined, AreTold}
 use Rattle.wt_called_edit_laws.specs.ToldTogether.{start_of, told_starts, IsAmongNumbers, AreSome}
-use Rattle.wt_called_edit_laws.proofs.Among.LinedParts.{of_behind, lined_whole, lined_editable}
+use Rattle.wt_called_edit_laws.proofs.Among.LinedParts.{lined_whole, lined_editable, own_breaks}
 use Rattle.wt_called_edit_laws.proofs.Among.OwnItems.{from_page}
 use Rattle.wt_called_edit_laws.proofs.Among.ToldAmong.{told_among}
 use Rattle.wt_called_edit_laws.proofs.BlocksOutside.{editable_called}
 use Rattle.wt_called_edit_laws.proofs.CallsTake.{contents_by, contents_paths}
-use Rattle.wt_called_edit_laws.proofs.Cells.PlacedLines.{own_items, own_block, Round, lines_joined}
+use Rattle.wt_called_edit_laws.proofs.Cells.PlacedLines.{own_items, own_block, Round, round, lines_joined}
 use Rattle.wt_called_edit_laws.proofs.Cells.SpotSlots.{open_size}
 use Rattle.wt_called_edit_laws.proofs.EditFacts.{IsFramedPage, framed_page, paths_of, spots_stand, spots_contents}
 use Rattle.wt_called_edit_laws.proofs.GroupsAmong.{retyped_self}
 use Rattle.wt_called_edit_laws.proofs.PathsSend.{NoneEmpty, paths_full}
 use Rattle.wt_called_edit_laws.proofs.AllTold.Alone.{IsAloneTold}
-use Rattle.wt_called_edit_laws.proofs.AllTold.Chosen.{IsOwnBehind, beside_call_decided, functions_decided, calm_decided, own_behind}
+use Rattle.wt_called_edit_laws.proofs.AllTold.Chosen.{IsOwnBehind, beside_call_decided, functions_decided, own_both, own_of, own_behind}
 use Rattle.wt_called_edit_laws.proofs.AllTold.ChosenLines.{byte_at, among_mapped, starts_so, ones_front, ones_behind}
 use Rattle.wt_called_edit_laws.proofs.AllTold.ClosedBlocks.{own_closed, own_reaches}
 use Rattle.wt_called_edit_laws.proofs.AllTold.ClosedLines.{NoneBlank, unclosed_by, AllPast, heading_size, para_size}
@@ -78,8 +80,9 @@ use Rattle.wt_called_edit_laws.proofs.AllTold.Found.{size, tree_size, size_both}
 use Rattle.wt_called_edit_laws.proofs.AllTold.HeadSigns.{head_begins}
 use Rattle.wt_called_edit_laws.proofs.AllTold.LineBlocks.{block_on_lines}
 use Rattle.wt_called_edit_laws.proofs.AllTold.LineKinds.{Lines, led_by, past_marks, led_whole, led_marks, kind_led}
+use Rattle.wt_called_edit_laws.proofs.AllTold.NoPairs.{calls_nothing}
 use Rattle.wt_called_edit_laws.proofs.AllTold.OneNode.{IsNodeAt, own_tree, IsKnownNode, known_node, page_ones, page_joined}
-use Rattle.wt_called_edit_laws.proofs.AllTold.NodeTexts.{node_texts, content_bytes}
+use Rattle.wt_called_edit_laws.proofs.AllTold.NodeTexts.{node_texts, some_content, content_bytes}
 use Rattle.wt_called_edit_laws.proofs.AllTold.OwnLines.{AreSeen, text_own_lines, heading_own_lines}
 use Rattle.wt_called_edit_laws.proofs.AllTold.OwnTrees.{OwnRound, paragraph_is, heading_is}
 use Rattle.wt_called_edit_laws.proofs.AllTold.PlaceStarts.{starts_from, spot_starts, paths_start, AllClear, clear_paths, AllHaveBytes, contents_some, LeadsThere, leads, leads_there}
@@ -287,7 +290,7 @@ by_place : (pages : Pages) (page : List ℕ) (i : ℕ) (is : List ℕ) (t : Tree
     (rest : Lines) → full_lines (expanded_page pages page).items ≡ all_lines (lined o ∷ []) rest → AreTold (o ∷ []) rest
     → HasLines (lined o) rest s.block → size s.before ≡ start_of 0 o → AllFrom None (content (own_items (lined o))) → Answer pages page i is t a n.utf8 n.unrefused
 by_place pages page i is t n a s o rest are told l at own =
-    by (beside_call_decided front o) (functions_decided line) (calm_decided line)
+    by (beside_call_decided e front o) (functions_decided line)
   where
     e : Expanded
     e = expanded_page pages page
@@ -298,19 +301,31 @@ by_place pages page i is t n a s o rest are told l at own =
     line : List Item
     line = content (own_items (lined o))
 
-    by : Decided (IsBesideNoCall front o) → Decided (AreNoFunctions line) → Decided (CallsNothing line)
-        → Answer pages page i is t a n.utf8 n.unrefused
-    by (inr f) b c = inr (record { stands = s; begins_so = beside_a_call o rest are told at f })
-    by (inl x) (inr f) c = inr (record { stands = s; begins_so = holds_a_function o rest are told at f })
-    by (inl x) (inl y) (inr f) = inr (record { stands = s; begins_so = holds_a_pair o rest are told at f })
-    by (inl x) (inl y) (inl w) =
+    by : Decided (IsBesideNoCall e front o) → Decided (AreNoFunctions line) → Answer pages page i is t a n.utf8 n.unrefused
+    by (inr f) b = inr (record { stands = s; begins_so = beside_a_call o rest are told at f })
+    by (inl x) (inr f) = inr (record { stands = s; begins_so = holds_a_function o rest are told at f })
+    by (inl x) (inl y) =
         let free : touches_text_call e.text_calls (label t).ranges ≡ false = untouched_tree e page t n.untangled in
         let z : IsBesideTexts e front o =
-        node_texts pages page t s o rest n.utf8 n.unrefused are free x own told.0.are_marks at l.size_is
+        node_texts pages page t s o rest n.utf8 n.unrefused are free x.ending own at l.size_is
         (content_bytes pages page o rest l.number are l.some l.shown.0 own) in
-        let p : IsOwnBehind e front o = own_behind e front o own x y w z in
+        let some : 1 ≤ length line = some_content l.number (lined o).first (lined o).more l.some l.shown.0 in
+        let mine : AreOfPage (own_items (lined o)) =
+        subst AreOfPage (content_ending (own_items (lined o))) (own_both line (ending (own_items (lined o))) (own_of line own y) x.ending) in
+        let runs : AreRuns goes_on (all_lines (lined o ∷ []) rest) e.items = subst (λ (ls : Lines). AreRuns goes_on ls e.items) are (runs_are goes_on e.items) in
+        let w : CallsNothing line = calls_nothing pages page o rest (record {
+          are = are;
+          own = mine;
+          first = l.some;
+          some = some;
+          led = x.led;
+          beside = z;
+          seen = l.seen (round (lined o) rest e.items l.some runs (own_breaks (own_items (lined o)) mine));
+          source = l.source mine;
+        }) in
+        let p : IsOwnBehind e front o = own_behind e front o own x some y w z in
         let closed : EndClosed (spots_of_lines pages page (map lined (o ∷ []))) (end_of_lines pages page (map lined (o ∷ [])) rest) =
-        own_closed pages page o rest l.number are p l.some l.seen l.shown (l.source (of_behind (lined o).marks (own_items (lined o)) p.own))
+        own_closed pages page o rest l.number are p l.some l.seen l.shown (l.source p.own)
         (λ none. unclosed_by e.items page (label t).ranges n.unclosed (own_reaches pages page t s o rest n.utf8 n.unrefused are p at l.size_is none)) in
         inl (alone_told pages page i is t n a s o rest (record { utf8 = n.utf8; closed = closed; are = are; told = told; place = p }) l.tree_so at)
 

@@ -20,6 +20,7 @@ use Rattle.wt_annotated.specs.Numbering.{next_after, count}
 use Rattle.wt_annotated.specs.Seams.{first_of, text_from}
 use Rattle.wt_checks.specs.Kept.{children as nodes_in}
 use Rattle.wt_context.specs.Line.{line_parts}
+use Rattle.wt_expand.specs.PageCalls.{expanded_page}
 use Rattle.wt_expand.specs.Work.{Pages}
 use Rattle.wt_commands.specs.Answers.{refusal_of_page}
 use Rattle.wt_page_round_trip.proofs.OpenedPages.{AreOnes}
@@ -37,6 +38,7 @@ use Rattle.wt_text_edit_laws.specs.LonePages.{page_chars}
 use Rattle.wt_text_edit_laws.specs.TextBlocks.{TextBlock, a_paragraph, a_heading, block_tree}
 use Rattle.wt_text_edit_laws.specs.TypedHeadings.{Sides, equals, opening, closing_items}
 use Rattle.wt_beside_laws.specs.Nests.{style_tree}
+use Rattle.wt_beside_laws.proofs.Groups.RoundNodes.{no_group as no_round_group}
 use Rattle.wt_beside_laws.proofs.Made.OldBlocks.{no_group}
 use Rattle.wt_beside_laws.proofs.StyledGroups.Blocks.{style_round}
 use Rattle.wt_called_edit_laws.specs.CalledContents.{tree_round, AreItemsOf}
@@ -47,7 +49,7 @@ use Rattle.wt_called_edit_laws.specs.EditableNodes.{IsEditable}
 use Rattle.wt_called_edit_laws.specs.Groups.{called_tree}
 use Rattle.wt_called_edit_laws.specs.RowBlocks.{IsReachedAt, IsReachedIn}
 use Rattle.wt_called_edit_laws.specs.Settled.{settled, all_settled}
-use Rattle.wt_called_edit_laws.specs.WholeContents.{IsShutNode, IsPartIn, HoldsGroups}
+use Rattle.wt_called_edit_laws.specs.WholeContents.{ArePartsIn, HoldsGroups, IsAnyNode, IsPartIn, IsShutNode}
 use Rattle.wt_called_edit_laws.proofs.BareInsides.{IsBare, AreBare}
 use Rattle.wt_called_edit_laws.proofs.BlockTexts.{block_flat}
 use Rattle.wt_called_edit_laws.proofs.BlocksOutside.{called_bare, inside_size, inner_bare, all_placeless_bare, beside_one, beside_all}
@@ -56,6 +58,7 @@ use Rattle.wt_called_edit_laws.proofs.Cells.CallingFrames.{content_in}
 use Rattle.wt_called_edit_laws.proofs.PageBody.{page_body}
 use Rattle.wt_called_edit_laws.proofs.SettledNodes.{settled_gone, placeless_twice, placeless_groupless, settled_groupless}
 use Rattle.wt_called_edit_laws.proofs.Whole.PartsIn.{parts_pieces}
+use Rattle.wt_called_edit_laws.proofs.Whole.SourcesAt.{sources_somewhere}
 use Rattle.wt_called_edit_laws.proofs.Whole.Pieces.{AreShutTrees, children_shut, own_is, node_holds}
 use Rattle.wt_called_edit_laws.proofs.Whole.Uncalled.{SomeOwn, some_own, none_some, first_given}
 use Rattle.wt_called_edit_laws.proofs.AllTold.BlockBytes.{own_some}
@@ -190,14 +193,19 @@ style_no_group false ps = refl
 style_free : (bold : Bool) (ps : List Part) → IsFreePiece (style_tree bold ps)
 style_free bold ps = inr (style_round bold ps, style_no_group bold ps)
 
-part_free : (n : ℕ) (xs : List Item) (t : ItemTree) → IsShutNode t → IsPartIn n xs t → WhereOwn IsFreePiece t
-part_free zero xs t s h = simple_free t s h
-part_free (suc n) xs t s (inl h) = simple_free t s h
-part_free (suc n) xs t s (inr r) = λ e. subst IsFreePiece (sym r.2) (style_free r.0 r.1)
+any_free : (calls : List OuterCall) (t : ItemTree) → IsShutNode t → IsAnyNode calls t → WhereOwn IsFreePiece t
+any_free calls t s (inl h) = simple_free t s h
+any_free calls (inner h q ts c) s (inr r) = λ e. inr (r.round, no_round_group h.kind r.round.0)
 
-parts_free : (n : ℕ) (xs : List Item) (ts : List ItemTree) → AreShutTrees ts → AllNodes (IsPartIn n xs) ts → AllNodes (WhereOwn IsFreePiece) ts
-parts_free n xs [] s h = tt
-parts_free n xs (t ∷ ts) s h = (part_free n xs t s.0 h.0, parts_free n xs ts s.1 h.1)
+part_free : (n : ℕ) (calls : List OuterCall) (xs : List Item) (t : ItemTree) → IsShutNode t → IsPartIn n calls xs t → WhereOwn IsFreePiece t
+part_free zero calls xs t s h = any_free calls t s h
+part_free (suc n) calls xs t s (inl h) = any_free calls t s h
+part_free (suc n) calls xs t s (inr r) = λ e. subst IsFreePiece (sym r.2) (style_free r.0 r.1)
+
+parts_free : (n : ℕ) (calls : List OuterCall) (xs : List Item) (ts : List ItemTree) → AreShutTrees ts → AllNodes (IsPartIn n calls xs) ts
+    → AllNodes (WhereOwn IsFreePiece) ts
+parts_free n calls xs [] s h = tt
+parts_free n calls xs (t ∷ ts) s h = (part_free n calls xs t s.0 h.0, parts_free n calls xs ts s.1 h.1)
 
 forest_both : (ts us : List ItemTree) → held_by_all (forest (ts ++ us)) ≡ held_by_all (forest ts) ++ held_by_all (forest us)
 forest_both [] us = refl
@@ -254,11 +262,13 @@ paragraph_free pages calls n at i q hold whole bare ones =
     let ps : List Part = content_parts_of a_paragraph xs in
     let ts : List ItemTree = children ps in
     let us : List CallPiece = call_pieces ts in
+    let there = sources_somewhere i (expanded_page pages q).outer in
+    let each : ArePartsIn there.0 xs ps = whole.parts there.0 i there.1 in
     let r : IsRoundGiven (plain kind.Para) [] ps [] = record {
       no_leaf = refl;
       own_opening = refl;
       own_closing = refl;
-      parts = parts_pieces 2 xs ps (whole.parts i);
+      parts = parts_pieces 2 there.0 xs ps each;
       some = hold.some;
     } in
     let are : ArePieces us = all_pieces ts (children_given ps r.parts) in
@@ -267,7 +277,7 @@ paragraph_free pages calls n at i q hold whole bare ones =
     (ap (λ (vs : List ItemTree). list_any is_page (held_by_all (forest vs))) (all_trees ts)
     ∙ ap (list_any is_page) (sym (append-nil (held_by_all (forest ts)))) ∙ hold.some) in
     let free : OwnAre IsFreePiece us =
-    own_are IsFreePiece ts (parts_free 2 xs ts (children_shut ps (whole.shut i)) (children_of_each (IsPartIn 2 xs) (λ t g. inl g) ps (whole.parts i))) in
+    own_are IsFreePiece ts (parts_free 2 there.0 xs ts (children_shut ps (whole.shut i)) (children_of_each (IsPartIn 2 there.0 xs) (λ t g. inl (inl g)) ps each)) in
     let same : block_in calls (tree_round a_paragraph xs) ≡ para_node calls us = given_block_is calls (plain kind.Para) [] ps [] r in
     let held : AreOnes (held_by_all (forest ts)) = ones_front (held_by_all (forest ts)) [] ones in
     let own : AreOnes (held_by_all (forest (trees_of us))) = subst (λ (vs : List ItemTree). AreOnes (held_by_all (forest vs))) (sym (all_trees ts)) held in

@@ -160,6 +160,7 @@ told_by_all pages page u r a some =
       are = a.are;
       told = a.told some;
       own = known.0;
+      led = known.3;
       free = known.2;
       untouched = known.1;
       unrefused = r;

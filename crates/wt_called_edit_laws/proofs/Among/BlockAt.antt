@@ -1,20 +1,22 @@
 -- A block among the items of an expanded page: the page's items, where calls are characters, are cut at it, and so are the page's bytes.
-use Rattle.std.proofs.Common.{arith, ◌≡◌, ◌⊎◌, inl, inr, ℕ, zero, suc, true, ◌+◌, ◌≤◌, Option, None, List, [], ◌∷◌, ◌++◌, length, refl, sym, ap, ap₂, ◌∙◌, subst, append_assoc, length-append}
+use Rattle.std.proofs.Common.{arith, ◌≡◌, ◌⊎◌, inl, inr, ℕ, zero, suc, true, ◌+◌, ◌≤◌, Option, None, List, [], ◌∷◌, ◌++◌, length, refl, sym, ap, ap₂, ◌∙◌, subst, append_assoc}
 use Rattle.std.proofs.lemmas.Grind.{flat_map-append}
-use Rattle.std.specs.List.{list_all}
-use Rattle.wt_span.specs.Items.{Item, is_mark, source, sources}
+use Rattle.wt_span.specs.Items.{Item, source, sources, call_of}
 use Rattle.wt_span.specs.Origins.{OuterCall, Span}
-use Rattle.wt_annotated.specs.Seams.{last_of, text_from}
+use Rattle.wt_annotated.specs.Seams.{last_of, first_of, text_from}
 use Rattle.wt_annotated.proofs.Seams.{text_append_from}
 use Rattle.wt_expand.specs.PageCalls.{expanded_page}
 use Rattle.wt_expand.specs.PageItems.{page_items}
 use Rattle.wt_expand.specs.Work.{Pages}
+use Rattle.wt_expand.proofs.PiecePlaces.{behind_page}
+use Rattle.wt_tables.specs.Parts.{joined}
 use Rattle.wt_text_edit_laws.specs.PageCuts.{AreBlockItems}
+use Rattle.wt_text_edit_laws.specs.ParagraphParts.{break}
 use Rattle.wt_text_edit_laws.specs.ReadContents.{begins_shown, BeginsParagraph, IsReadContent}
-use Rattle.wt_text_edit_laws.specs.TextBetween.{AreEnded}
 use Rattle.wt_text_edit_laws.specs.TextBlocks.{TextBlock, a_paragraph, a_heading, source_of, IsFrame}
 use Rattle.wt_text_edit_laws.specs.TypedHeadings.{equals, closing}
 use Rattle.wt_text_edit_laws.proofs.Cuts.ItemCuts.{HaveBytes}
+use Rattle.wt_text_edit_laws.proofs.Cuts.TextLines.{IsEnding}
 use Rattle.wt_beside_laws.proofs.Derived.BlockContents.{block_seen}
 use Rattle.wt_beside_laws.proofs.Derived.BodyRead.{parts_are}
 use Rattle.wt_beside_laws.proofs.Marks.Shown.{nothing_read}
@@ -24,7 +26,6 @@ use Rattle.wt_called_edit_laws.proofs.Among.OwnItems.{from_page, Skipped, skip, 
 use Rattle.wt_called_edit_laws.proofs.Among.OwnSeams.{own_last, IsOwnSeam, Rest}
 use Rattle.wt_called_edit_laws.proofs.Among.PartsApart.{IsClear, members_of}
 use Rattle.wt_called_edit_laws.proofs.Cells.PlacedBlocks.{own_alone, stays_so}
-use Rattle.wt_called_edit_laws.proofs.Cells.PlacedLines.{marks_there}
 use Rattle.wt_called_edit_laws.proofs.PartTexts.{own_text}
 
 -- ---- bytes that are cut
@@ -138,6 +139,62 @@ past_front pages page p xs ys qs r ends beside =
       };
     }
 
+-- ---- items before those of the page's own
+
+-- there is none, or the first is one of these
+abbrev pub BeginsOwn : List Item → Type 0
+BeginsOwn ys = (ys ≡ []) ⊎ ((z : Item) × (zs : List Item) × (ys ≡ z ∷ zs) × (call_of z ≡ None))
+
+pub rest_own : (es : List Item) (tail : List (List Item)) → IsEnding es → ((m : List Item) (ms : List (List Item)) → tail ≡ m ∷ ms → es ≡ break ∷ [])
+    → BeginsOwn (es ++ joined tail)
+rest_own [] [] i f = inl refl
+rest_own [] (m ∷ ms) i f = let none : [] ≡ break ∷ [] = f m ms refl in cc
+rest_own (x ∷ es) tail i f = inr (x, es ++ joined tail, refl, ap call_of i.0)
+
+own_same : (calls : List OuterCall) (o : Option ℕ) (ys : List Item) → BeginsOwn ys → text_from calls o ys ≡ text_from calls None ys
+own_same calls o ys (inl e) = ap (text_from calls o) e ∙ sym (ap (text_from calls None) e)
+own_same calls o ys (inr (z, zs, e, own)) =
+    let first : text_from calls o (z ∷ zs) ≡ source z ++ text_from calls (call_of z) zs =
+    ap (λ (bs : List ℕ). bs ++ text_from calls (call_of z) zs) (behind_page calls o z own) in
+    let again : text_from calls None (z ∷ zs) ≡ source z ++ text_from calls (call_of z) zs =
+    ap (λ (bs : List ℕ). bs ++ text_from calls (call_of z) zs) (behind_page calls None z own) in
+    ap (text_from calls o) e ∙ first ∙ sym again ∙ sym (ap (text_from calls None) e)
+
+first_none : (ys : List Item) → BeginsOwn ys → first_of ys None ≡ None
+first_none ys (inl e) = ap (λ (zs : List Item). first_of zs None) e
+first_none ys (inr (z, zs, e, own)) = ap (λ (us : List Item). first_of us None) e ∙ own
+
+seam_before : (xs ys : List Item) → BeginsOwn ys → IsOwnSeam xs ys
+seam_before [] ys h = tt
+seam_before (x ∷ xs) ys h = inr (first_none ys h)
+
+-- past items that may come from calls
+pub past_before : (pages : Pages) (page : List ℕ) (p : ℕ) (xs ys qs : List Item) → IsRest pages page p (xs ++ ys) qs → BeginsOwn ys
+    → AreBeside (text_to pages page p xs) (text_to pages page p xs) (expanded_page pages page).text_calls → IsPast pages page p xs ys qs
+past_before pages page p xs ys qs r own beside =
+    let calls : List OuterCall = calls_of pages page in
+    let spans : List Span = (expanded_page pages page).text_calls in
+    let k : Skipped pages calls spans 0 (members_of page) p xs ys qs =
+    skip pages calls spans 0 (members_of page) p xs ys qs r.rest (seam_before xs ys own) beside in
+    let text_is : text_from calls None (xs ++ ys) ≡ text_from calls None xs ++ text_from calls None ys =
+    text_append_from calls None xs ys ∙ ap (λ (bs : List ℕ). text_from calls None xs ++ bs) (own_same calls (last_of None xs) ys own) in
+    let source_is : sources qs ≡ sources k.front ++ sources k.behind = ap sources k.chars ∙ flat_map-append source k.front k.behind in
+    let cut = bytes_cut (text_from calls None xs) (text_from calls None ys) (sources k.front) (sources k.behind) (sym text_is ∙ r.same ∙ source_is) (sym k.size) in
+    record {
+      before = k.front;
+      behind = k.behind;
+      is = k.chars;
+      source = sym cut.0;
+      clear = rest_clear pages calls spans 0 (members_of page) (text_to pages page p xs) ys k.behind k.rest;
+      next = record {
+        rest = k.rest;
+        same = cut.1;
+        front = r.front ++ k.front;
+        whole = r.whole ∙ ap (λ zs. r.front ++ zs) k.chars ∙ sym (append_assoc r.front k.front k.behind);
+        some = have_behind k.front k.behind (subst HaveBytes k.chars r.some);
+      };
+    }
+
 -- past items of the page's own
 pub record IsPastOwn (pages : Pages) (page : List ℕ) (p : ℕ) (os ys qs : List Item) : Type 0 where
   pub behind : List Item
@@ -178,21 +235,18 @@ block_from pages page p xs ms = text_to pages page p (xs ++ ms)
 abbrev pub block_to : Pages → List ℕ → ℕ → List Item → List Item → TextBlock → List ℕ → ℕ
 block_to pages page p xs ms k q = block_from pages page p xs ms + length (source_of k q)
 
--- a block of the page's own behind these items and these marks
-pub record IsBlockHere (pages : Pages) (page : List ℕ) (p : ℕ) (xs ms os : List Item) (k : TextBlock) (q : List ℕ) (ys qs : List Item) : Type 0 where
+-- a block of the page's own behind these items
+pub record IsBlockHere (pages : Pages) (page : List ℕ) (p : ℕ) (xs os : List Item) (k : TextBlock) (q : List ℕ) (ys qs : List Item) : Type 0 where
   pub before : List Item
   pub behind : List Item
   pub is : qs ≡ before ++ (os ++ behind)
-  pub source : sources before ≡ text_from (calls_of pages page) None (xs ++ ms)
-  pub marked : text_from (calls_of pages page) None (xs ++ ms) ≡ text_from (calls_of pages page) None xs ++ sources ms
-  pub marks : HaveBytes ms
+  pub source : sources before ≡ text_from (calls_of pages page) None xs
   pub some : HaveBytes os
   pub alone : page_items (source_of k q) ≡ os
   pub stays : (n : ℕ) → StayText k n os → StayText k n (page_items q)
-  pub first : IsClear (block_from pages page p xs ms) 0 (members_of page)
-  pub last : IsClear (block_to pages page p xs ms k q) 0 (members_of page)
-  pub next : IsRest pages page (block_to pages page p xs ms k q) ys behind
-  pub marks_end : list_all is_mark ms ≡ true → 1 ≤ length os → AreEnded (sources ms)
+  pub first : IsClear (text_to pages page p xs) 0 (members_of page)
+  pub last : IsClear (text_to pages page p xs + length (source_of k q)) 0 (members_of page)
+  pub next : IsRest pages page (text_to pages page p xs + length (source_of k q)) ys behind
 
 pub beside_last : (from mid to : ℕ) (spans : List Span) → from ≤ mid → AreBeside from to spans → AreBeside mid to spans
 beside_last from mid to [] le h = tt
@@ -209,47 +263,30 @@ marked_text calls xs ms ends marks =
     text_append_from calls None xs ms ∙ ap (λ (o : Option ℕ). text_from calls None xs ++ text_from calls o ms) ends
     ∙ ap (λ (bs : List ℕ). text_from calls None xs ++ bs) (own_text calls None ms (from_page ms marks))
 
-pub block_here : (pages : Pages) (page : List ℕ) (p : ℕ) (xs ms os : List Item) (k : TextBlock) (q : List ℕ) (ys qs : List Item)
-    → IsRest pages page p (xs ++ (ms ++ (os ++ ys))) qs → last_of None xs ≡ None → AreOfPage ms → AreOfPage os → AreBlockItems k q os → sources os ≡ source_of k q
-    → AreBeside (text_to pages page p xs) (block_to pages page p xs ms k q) (expanded_page pages page).text_calls → IsBlockHere pages page p xs ms os k q ys qs
-block_here pages page p xs ms os k q ys qs r ends marks own block is_source beside =
-    let calls : List OuterCall = calls_of pages page in
+pub block_here : (pages : Pages) (page : List ℕ) (p : ℕ) (xs os : List Item) (k : TextBlock) (q : List ℕ) (ys qs : List Item) → IsRest pages page p (xs ++ (os ++ ys)) qs
+    → BeginsOwn (os ++ ys) → AreOfPage os → AreBlockItems k q os → sources os ≡ source_of k q
+    → AreBeside (text_to pages page p xs) (text_to pages page p xs + length (source_of k q)) (expanded_page pages page).text_calls
+    → IsBlockHere pages page p xs os k q ys qs
+block_here pages page p xs os k q ys qs r begins own block is_source beside =
     let spans : List Span = (expanded_page pages page).text_calls in
-    let line : ℕ = text_to pages page p xs in
-    let from : ℕ = block_from pages page p xs ms in
-    let to : ℕ = block_to pages page p xs ms k q in
-    let marked : text_from calls None (xs ++ ms) ≡ text_from calls None xs ++ sources ms = marked_text calls xs ms ends marks in
-    let sum = ap length marked in
-    let two = length-append (text_from calls None xs) (sources ms) in
-    let size : line + length (sources ms) ≡ from = omega (arith, sum, two) in
+    let from : ℕ = text_to pages page p xs in
+    let to : ℕ = from + length (source_of k q) in
     let all_size : from + length (sources os) ≡ to = ap (λ (bs : List ℕ). from + length bs) is_source in
-    let first = past_front pages page p xs (ms ++ (os ++ ys)) qs r ends (beside_first line to spans (omega (arith, size)) beside) in
-    let second = past_own pages page line ms (os ++ ys) first.behind first.next marks
-    (subst (λ (n : ℕ). AreBeside line n spans) (sym size) (beside_front line from to spans (omega arith) beside)) in
-    let at_block : IsRest pages page from (os ++ ys) second.behind = subst (λ (n : ℕ). IsRest pages page n (os ++ ys) second.behind) size second.next in
-    let third = past_own pages page from os ys second.behind at_block own
-    (subst (λ (n : ℕ). AreBeside from n spans) (sym all_size) (beside_last line from to spans (omega (arith, size)) beside)) in
-    let before : List Item = first.before ++ ms in
-    let all : qs ≡ before ++ (os ++ third.behind) =
-    first.is ∙ ap (λ zs. first.before ++ zs) (second.is ∙ ap (λ zs. ms ++ zs) third.is) ∙ sym (append_assoc first.before ms (os ++ third.behind)) in
-    let front : List Item = at_block.front in
-    let whole : page_items page ≡ front ++ (os ++ third.behind) = at_block.whole ∙ ap (λ zs. front ++ zs) third.is in
-    let again : page_items (sources front ++ (sources os ++ sources third.behind)) ≡ front ++ (os ++ third.behind) =
-    ap page_items (parts_are page front os third.behind whole) ∙ whole in
+    let first = past_before pages page p xs (os ++ ys) qs r begins (beside_first from to spans (omega arith) beside) in
+    let second = past_own pages page from os ys first.behind first.next own (subst (λ (n : ℕ). AreBeside from n spans) (sym all_size) beside) in
+    let front : List Item = first.next.front in
+    let whole : page_items page ≡ front ++ (os ++ second.behind) = first.next.whole ∙ ap (λ zs. front ++ zs) second.is in
+    let again : page_items (sources front ++ (sources os ++ sources second.behind)) ≡ front ++ (os ++ second.behind) =
+    ap page_items (parts_are page front os second.behind whole) ∙ whole in
     record {
-      before = before;
-      behind = third.behind;
-      is = all;
-      source = flat_map-append source first.before ms ∙ ap (λ (bs : List ℕ). bs ++ sources ms) first.source ∙ sym marked;
-      marked = marked;
-      marks = have_front ms second.behind (subst HaveBytes second.is first.next.some);
-      some = have_front os third.behind (subst HaveBytes third.is at_block.some);
-      alone = ap page_items (sym is_source) ∙ own_alone front os third.behind again (block_seen k q os block);
-      stays = λ n h. stays_so k n q front os third.behind block again h;
-      first = subst (λ (n : ℕ). IsClear n 0 (members_of page)) size second.clear;
-      last = subst (λ (n : ℕ). IsClear n 0 (members_of page)) all_size third.clear;
-      next = subst (λ (n : ℕ). IsRest pages page n ys third.behind) all_size third.next;
-      marks_end = λ all_marks some. marks_there page first.next.front ms (os ++ third.behind)
-          (first.next.whole ∙ ap (λ zs. first.next.front ++ zs) (second.is ∙ ap (λ zs. ms ++ zs) third.is)) all_marks
-          (omega (arith, some, length-append os third.behind));
+      before = first.before;
+      behind = second.behind;
+      is = first.is ∙ ap (λ zs. first.before ++ zs) second.is;
+      source = first.source;
+      some = have_front os second.behind (subst HaveBytes second.is first.next.some);
+      alone = ap page_items (sym is_source) ∙ own_alone front os second.behind again (block_seen k q os block);
+      stays = λ n h. stays_so k n q front os second.behind block again h;
+      first = first.clear;
+      last = subst (λ (n : ℕ). IsClear n 0 (members_of page)) all_size second.clear;
+      next = subst (λ (n : ℕ). IsRest pages page n ys second.behind) all_size second.next;
     }

@@ -8,8 +8,8 @@ use Rattle.wt_span.specs.Items.{Item, is_mark, source, sources, call_of}
 use Rattle.wt_span.specs.Origins.{OuterCall, Span}
 use Rattle.wt_span.specs.Runs.{AreRuns}
 use Rattle.wt_span.proofs.RunLaws.{runs_are}
-use Rattle.wt_annotated.specs.Seams.{last_of, first_of, text_from}
-use Rattle.wt_annotated.proofs.Seams.{last_append, text_append_from}
+use Rattle.wt_annotated.specs.Seams.{last_of, text_from}
+use Rattle.wt_annotated.proofs.Seams.{last_append}
 use Rattle.wt_lines.specs.Lines.{content, full_lines, goes_on}
 use Rattle.wt_page.specs.Lines.{ending}
 use Rattle.wt_page.specs.Rows.{Row}
@@ -18,7 +18,7 @@ use Rattle.wt_expand.specs.PageCalls.{expanded_page}
 use Rattle.wt_expand.specs.PageItems.{page_items}
 use Rattle.wt_expand.specs.Work.{Pages}
 use Rattle.wt_expand.proofs.PageLaws.{page_sources}
-use Rattle.wt_expand.proofs.PiecePlaces.{text_behind, behind_page}
+use Rattle.wt_expand.proofs.PiecePlaces.{text_behind}
 use Rattle.wt_part_laws.specs.Expanded.{part_items}
 use Rattle.wt_part_laws.specs.Lexer.{lexer}
 use Rattle.wt_part_laws.specs.Scans.{after_all}
@@ -49,73 +49,16 @@ use Rattle.wt_called_edit_laws.specs.PartTexts.{AreSourcesAt}
 use Rattle.wt_called_edit_laws.specs.PlacedAmong.{StandAfter}
 use Rattle.wt_called_edit_laws.specs.PlacedCalling.{AreFurtherCutsAt, AreCutsAt, IsPlacedCalling}
 use Rattle.wt_called_edit_laws.specs.PlacedLines.{LinedBlock, all_lines}
-use Rattle.wt_called_edit_laws.proofs.Among.BlockAt.{read_some, calls_of, IsRest, IsPast, text_to, block_from, block_to, past_front, past_own, marked_text, bytes_cut, have_front, have_behind, beside_first, beside_front, beside_last}
+use Rattle.wt_called_edit_laws.proofs.Among.BlockAt.{read_some, calls_of, IsRest, text_to, block_from, block_to, past_front, BeginsOwn, rest_own, past_before, past_own, marked_text, have_front, beside_first, beside_front, beside_last}
 use Rattle.wt_called_edit_laws.proofs.Among.FirstItems.{FirstHas, EachThere, there_both, there_before, there_behind, part_there, called_there, NamedParts, named_parts, called_first, part_below}
 use Rattle.wt_called_edit_laws.proofs.Among.LinedParts.{EndsBreak, EndsOwn, own_end, ended_text, own_behind, own_text_size, ends_text, cancel, no_items, IsLeft, left_none, left_whole, open_at, line_front, block_front, page_rest}
-use Rattle.wt_called_edit_laws.proofs.Among.OwnItems.{Skipped, skip, rest_clear}
-use Rattle.wt_called_edit_laws.proofs.Among.OwnSeams.{FirstLonger, FirstShorter, two_cuts, first_or, first_size, IsOwnSeam, text_size, end_behind}
+use Rattle.wt_called_edit_laws.proofs.Among.OwnSeams.{FirstLonger, FirstShorter, two_cuts, first_or, first_size, text_size, end_behind}
 use Rattle.wt_called_edit_laws.proofs.Among.PartsApart.{IsClear, members_of, AreClear, ArePartsApart, parts_apart}
 use Rattle.wt_called_edit_laws.proofs.Cells.PlacedBlocks.{own_lines}
 use Rattle.wt_called_edit_laws.proofs.Cells.PlacedCalling.{block_begins, PartsRead, parts_read, parts_called, calling_placed}
 use Rattle.wt_called_edit_laws.proofs.Cells.PlacedLines.{own_items, marks_there, Round, round, rows_by, leads_by, both_end, some_lines, lines_end}
 use Rattle.wt_called_edit_laws.proofs.Parts.Retyped.{is_by_parts}
 use Rattle.wt_called_edit_laws.proofs.PartTexts.{IsBelow, part_text, sources_first}
-
--- ---- items before those of the page's own
-
--- there is none, or the first is one of these
-abbrev BeginsOwn : List Item → Type 0
-BeginsOwn ys = (ys ≡ []) ⊎ ((z : Item) × (zs : List Item) × (ys ≡ z ∷ zs) × (call_of z ≡ None))
-
-rest_own : (es : List Item) (tail : List (List Item)) → IsEnding es → ((m : List Item) (ms : List (List Item)) → tail ≡ m ∷ ms → es ≡ break ∷ [])
-    → BeginsOwn (es ++ joined tail)
-rest_own [] [] i f = inl refl
-rest_own [] (m ∷ ms) i f = let none : [] ≡ break ∷ [] = f m ms refl in cc
-rest_own (x ∷ es) tail i f = inr (x, es ++ joined tail, refl, ap call_of i.0)
-
-own_same : (calls : List OuterCall) (o : Option ℕ) (ys : List Item) → BeginsOwn ys → text_from calls o ys ≡ text_from calls None ys
-own_same calls o ys (inl e) = ap (text_from calls o) e ∙ sym (ap (text_from calls None) e)
-own_same calls o ys (inr (z, zs, e, own)) =
-    let first : text_from calls o (z ∷ zs) ≡ source z ++ text_from calls (call_of z) zs =
-    ap (λ (bs : List ℕ). bs ++ text_from calls (call_of z) zs) (behind_page calls o z own) in
-    let again : text_from calls None (z ∷ zs) ≡ source z ++ text_from calls (call_of z) zs =
-    ap (λ (bs : List ℕ). bs ++ text_from calls (call_of z) zs) (behind_page calls None z own) in
-    ap (text_from calls o) e ∙ first ∙ sym again ∙ sym (ap (text_from calls None) e)
-
-first_none : (ys : List Item) → BeginsOwn ys → first_of ys None ≡ None
-first_none ys (inl e) = ap (λ (zs : List Item). first_of zs None) e
-first_none ys (inr (z, zs, e, own)) = ap (λ (us : List Item). first_of us None) e ∙ own
-
-seam_before : (xs ys : List Item) → BeginsOwn ys → IsOwnSeam xs ys
-seam_before [] ys h = tt
-seam_before (x ∷ xs) ys h = inr (first_none ys h)
-
--- past items that may come from calls
-past_before : (pages : Pages) (page : List ℕ) (p : ℕ) (xs ys qs : List Item) → IsRest pages page p (xs ++ ys) qs → BeginsOwn ys
-    → AreBeside (text_to pages page p xs) (text_to pages page p xs) (expanded_page pages page).text_calls → IsPast pages page p xs ys qs
-past_before pages page p xs ys qs r own beside =
-    let calls : List OuterCall = calls_of pages page in
-    let spans : List Span = (expanded_page pages page).text_calls in
-    let k : Skipped pages calls spans 0 (members_of page) p xs ys qs =
-    skip pages calls spans 0 (members_of page) p xs ys qs r.rest (seam_before xs ys own) beside in
-    let text_is : text_from calls None (xs ++ ys) ≡ text_from calls None xs ++ text_from calls None ys =
-    text_append_from calls None xs ys ∙ ap (λ (bs : List ℕ). text_from calls None xs ++ bs) (own_same calls (last_of None xs) ys own) in
-    let source_is : sources qs ≡ sources k.front ++ sources k.behind = ap sources k.chars ∙ flat_map-append source k.front k.behind in
-    let cut = bytes_cut (text_from calls None xs) (text_from calls None ys) (sources k.front) (sources k.behind) (sym text_is ∙ r.same ∙ source_is) (sym k.size) in
-    record {
-      before = k.front;
-      behind = k.behind;
-      is = k.chars;
-      source = sym cut.0;
-      clear = rest_clear pages calls spans 0 (members_of page) (text_to pages page p xs) ys k.behind k.rest;
-      next = record {
-        rest = k.rest;
-        same = cut.1;
-        front = r.front ++ k.front;
-        whole = r.whole ∙ ap (λ zs. r.front ++ zs) k.chars ∙ sym (append_assoc r.front k.front k.behind);
-        some = have_behind k.front k.behind (subst HaveBytes k.chars r.some);
-      };
-    }
 
 -- ---- the page's items are cut at a block
 

@@ -31,14 +31,14 @@ use Rattle.wt_text_edit_laws.proofs.Between.LessBraces.{BeginsUnbraced}
 use Rattle.wt_text_edit_laws.proofs.Between.NoCalls.{calm_expanded}
 use Rattle.wt_text_edit_laws.proofs.Cuts.TextLines.{IsEnding, joined_is}
 use Rattle.wt_beside_laws.proofs.Derived.BlockContents.{calm_between}
-use Rattle.wt_called_edit_laws.specs.AnyBlocks.{open_after}
+use Rattle.wt_called_edit_laws.specs.AnyBlocks.{open_after, open_behind_part, past_break}
 use Rattle.wt_called_edit_laws.specs.Covered.{AreInNoGroup, IsEditablePage}
 use Rattle.wt_called_edit_laws.specs.Groups.{called_tree}
-use Rattle.wt_called_edit_laws.specs.LinedAmong.{spots_on, end_on, spots_of_lines, end_of_lines, AreOfPage, AreOwnLines, AreUntouched, IsLinedAmong}
+use Rattle.wt_called_edit_laws.specs.LinedAmong.{spots_on, end_on, spots_of_lines, end_of_lines, AreOfPage, AreOwnLines, AreLed, AreUntouched, IsLinedAmong}
 use Rattle.wt_called_edit_laws.specs.PlacedLines.{LinedBlock, all_lines, spots_by, end_by, AreLinedAfter, AreLined, IsLinedPage}
+use Rattle.wt_called_edit_laws.specs.PlacedSpots.{AreFurtherIn, AreBlocksIn, IsPlacedPage}
 use Rattle.wt_called_edit_laws.proofs.Among.LinedParts.{of_behind, of_front, own_breaks}
 use Rattle.wt_called_edit_laws.proofs.Among.OwnItems.{from_page}
-use Rattle.wt_called_edit_laws.proofs.Among.OwnSeams.{own_last}
 use Rattle.wt_called_edit_laws.proofs.BlocksOutside.{called_editable}
 use Rattle.wt_called_edit_laws.proofs.Cells.PlacedLines.{own_items, Round, round, lines_joined, lined_whole, lined_in}
 use Rattle.wt_called_edit_laws.proofs.Cells.PlacedSpots.{AreCutFree, spots_free, spots_called}
@@ -166,8 +166,7 @@ own_all front (b ∷ bs) behind xs runs h c s =
     subst CallsNothing (ap (λ zs. front ++ zs) r.items ∙ sym (append_assoc front before (content own ++ rest))) c in
     let split : front ++ joined (b.before ++ (((b.marks ++ b.first) ∷ b.more) ++ tail)) ≡ ((front ++ before) ++ own) ++ joined tail =
     ap (λ zs. front ++ zs) (lines_joined b tail) ∙ sym (append_assoc front before (own ++ joined tail)) ∙ sym (append_assoc (front ++ before) own (joined tail)) in (
-      own_last (joined b.before) (from_page (joined b.before) p.front),
-      p.line,
+      mine,
       calm_between (front ++ before) (content own) rest (behind_unbraced tail (ending own) r.own_ending r.ends) all,
       own_all ((front ++ before) ++ own) bs behind (joined tail) r.tail_runs p.rest (subst CallsNothing split c) s.1,
     )
@@ -178,8 +177,17 @@ none_touched : (calls : List OuterCall) (at : ℕ) (es : List Item) (bs : List L
 none_touched calls at es [] = tt
 none_touched calls at es (b ∷ bs) = (
   tt,
-  none_touched calls (at + length (text_from calls None (es ++ joined b.before)) + length (sources (b.marks ++ content (own_items b)))) (ending (own_items b)) bs,
+  none_touched calls (at + length (text_from calls None ((es ++ joined b.before) ++ b.marks)) + length (sources (content (own_items b)))) (ending (own_items b)) bs,
 )
+
+-- each is behind lines, comments and tags
+led_after : (last : TextBlock) (tables : List Bool) (ss : List BlockSpot) (behind : List ℕ) (zs : List Item) → AreFurtherIn last tables ss behind zs → AreLed ss
+led_after last tables [] behind zs h = tt
+led_after last tables (s ∷ ss) behind zs h = (h.1, led_after s.block (open_behind_part tables (past_break h.0.before)) ss behind h.0.rest h.6)
+
+led_in : (ss : List BlockSpot) (behind : List ℕ) → AreBlocksIn ss behind → AreLed ss
+led_in [] behind h = absurd h
+led_in (s ∷ ss) behind h = (h.1, led_after s.block (open_behind_part [] h.0.before) ss behind h.0.rest h.4)
 
 pub page_runs : (page : List ℕ) (bs : List LinedBlock) (behind : List (List Item)) → full_lines (page_items page) ≡ all_lines bs behind
     → AreRuns goes_on (all_lines bs behind) (page_items page)
@@ -201,8 +209,9 @@ calm_lined pages page bs behind h =
     let end : List ℕ = end_by [] bs behind in
     let parts = calm_parts pages page bs behind h.are in
     let same : spots_source ss end ≡ page = lined_whole page bs behind h.are h.lined in
-    let f : AreCutFree ss end = spots_free ss end (lined_in page bs behind h) in
-    let editable : IsEditablePage pages ss end = called_editable pages ss end (spots_called pages ss end (lined_in page bs behind h)) in
+    let there : IsPlacedPage ss end = lined_in page bs behind h in
+    let f : AreCutFree ss end = spots_free ss end there in
+    let editable : IsEditablePage pages ss end = called_editable pages ss end (spots_called pages ss end there) in
     let outside : AreInNoGroup 0 ss (called_tree pages page) = subst (λ (us : List ℕ). AreInNoGroup 0 ss (called_tree pages us)) same editable.in_no_group in
     record {
       utf8 = h.utf8;
@@ -210,6 +219,7 @@ calm_lined pages page bs behind h =
       are = ap (λ (x : Expanded). full_lines x.items) expanded ∙ h.are;
       lined = h.lined;
       own = own_all [] bs behind xs runs (subst AreOfPage all (page_of page)) (subst CallsNothing all h.calls_nothing) (some_all bs behind h.lined);
+      led = subst AreLed (sym parts.0) (led_in ss end there.blocks);
       free = subst AreFree (sym parts.0) f.free;
       untouched = subst (λ (ts : List Span). AreUntouched (expanded_page pages page).outer ts 0 [] bs) (sym (ap (λ (x : Expanded). x.text_calls) expanded))
           (none_touched (expanded_page pages page).outer 0 [] bs);

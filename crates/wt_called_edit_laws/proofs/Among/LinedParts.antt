@@ -1,5 +1,5 @@
 -- A page with calls, by the lines of the expanded page: it is cut at the blocks that these tell, and each is at such a place.
-use Rattle.std.proofs.Common.{arith, ◌≡◌, ◌≢◌, ◌⊎◌, inl, inr, ℕ, zero, suc, ◌+◌, ◌≤◌, Bool, true, false, Option, Some, None, List, [], ◌∷◌, ◌++◌, length, map, refl, sym, ap, ap₂, ◌∙◌, subst, append_assoc, append-nil, length-append}
+use Rattle.std.proofs.Common.{arith, ◌≡◌, ◌≢◌, ◌⊎◌, inl, inr, ℕ, zero, suc, ◌+◌, ◌≤◌, ◌<◌, Bool, true, false, Option, Some, None, List, [], ◌∷◌, ◌++◌, length, map, refl, sym, ap, ap₂, ◌∙◌, subst, append_assoc, append-nil, length-append}
 use Rattle.std.specs.Prelude.{if◌then◌else◌}
 use Rattle.std.specs.Str.{IsUtf8}
 use Rattle.std.proofs.lemmas.Bool.Decides.{nat_tests}
@@ -9,7 +9,7 @@ use Rattle.wt_span.specs.Origins.{OuterCall, Span}
 use Rattle.wt_span.specs.Runs.{AreRuns}
 use Rattle.wt_span.proofs.RunLaws.{runs_are}
 use Rattle.wt_annotated.specs.Seams.{last_of, text_from}
-use Rattle.wt_annotated.proofs.Seams.{last_append, text_append_from}
+use Rattle.wt_annotated.proofs.Seams.{text_append_from}
 use Rattle.wt_lines.specs.Lines.{is_break_item, content, empty_end, goes_on}
 use Rattle.wt_page.specs.Lines.{ending}
 use Rattle.wt_page.proofs.Ends.{content_ending}
@@ -44,16 +44,16 @@ use Rattle.wt_called_edit_laws.specs.StaysIn.{StaysIn}
 use Rattle.wt_called_edit_laws.specs.CalledContents.{StayText}
 use Rattle.wt_called_edit_laws.specs.Covered.{AreInNoGroup, IsEditablePage}
 use Rattle.wt_called_edit_laws.specs.Groups.{called_tree}
-use Rattle.wt_called_edit_laws.specs.LinedAmong.{spots_on, end_on, AreOfPage, AreOwnLines, AreBeside, AreUntouched, IsLinedAmong}
+use Rattle.wt_called_edit_laws.specs.LinedAmong.{spots_on, end_on, AreOfPage, AreOwnLines, AreLed, AreBeside, AreUntouched, IsLinedAmong}
 use Rattle.wt_called_edit_laws.specs.Parts.{calls_to, calls_past, called_items, called_outers, IsByParts}
 use Rattle.wt_called_edit_laws.specs.PlacedAmong.{AreCalm, StandAfter, IsPlacedAmong}
 use Rattle.wt_called_edit_laws.specs.PlacedLines.{LinedBlock, all_lines, IsLinedAt, AreLinedAfter}
 use Rattle.wt_called_edit_laws.specs.PartTexts.{AreSourcesAt}
-use Rattle.wt_called_edit_laws.proofs.Among.BlockAt.{calls_of, IsRest, IsBlockHere, text_to, block_to, block_here, beside_front, marked_text}
+use Rattle.wt_called_edit_laws.proofs.Among.BlockAt.{calls_of, IsRest, IsBlockHere, text_to, block_to, BeginsOwn, block_here, beside_front}
 use Rattle.wt_called_edit_laws.proofs.Among.OwnItems.{whole_rest}
-use Rattle.wt_called_edit_laws.proofs.Among.OwnSeams.{Rest, FirstLonger, FirstShorter, two_cuts, first_or, others, sources_size, text_size, end_behind}
+use Rattle.wt_called_edit_laws.proofs.Among.OwnSeams.{Rest, FirstLonger, FirstShorter, two_cuts, first_or, others, sources_size, text_size}
 use Rattle.wt_called_edit_laws.proofs.Among.PartsApart.{members_of, AreClear, ArePartsApart, parts_apart}
-use Rattle.wt_called_edit_laws.proofs.Cells.PlacedLines.{own_items, Round, round, rows_by, leads_by, own_block, own_source, past_end, both_end, some_lines, lines_end}
+use Rattle.wt_called_edit_laws.proofs.Cells.PlacedLines.{own_items, Round, round, rows_by, leads_by, own_block, own_source, past_end, some_lines, lines_end}
 use Rattle.wt_called_edit_laws.proofs.Cells.PlacedAmong.{PartsRead, parts_read, parts_called, placed_editable}
 use Rattle.wt_called_edit_laws.proofs.Parts.NoCallsCalled.{calm_items, calm_count}
 use Rattle.wt_called_edit_laws.proofs.Parts.PartByPart.{items_of}
@@ -164,10 +164,6 @@ block_some (a_heading s) q xs h e = by s.level h.some (sym h.is ∙ e)
     by zero le z = omega (arith, le)
     by (suc n) le z = cc
 
-item_some : (xs : List Item) → xs ≢ [] → 1 ≤ length xs
-item_some [] h = absurd (h refl)
-item_some (x ∷ xs) h = omega arith
-
 -- ---- the parts are those of the page
 
 -- what is on the page for the items of what is before each block is that
@@ -206,37 +202,40 @@ pub no_items : (xs : List Item) (u : Item) (us : List Item) → [] ≡ xs ++ u �
 no_items [] u us e = cc
 no_items (x ∷ xs) u us e = cc
 
--- the same bytes are before the block in both, so these are the same items
-same_front : (calls : List OuterCall) (xs : List Item) (o : Item) (os : List Item) (gs bs : List Item) → xs ++ o ∷ os ≡ gs ++ bs → EndsOwn xs → call_of o ≡ None
-    → 1 ≤ length (source o) → text_from calls None xs ≡ text_from calls None gs → (gs ≡ xs) × (bs ≡ o ∷ os)
-same_front calls xs o os gs bs e ends own some t = by (two_cuts xs (o ∷ os) gs bs e)
+-- an item of the page's own with a byte
+record IsOwnByte (o : Item) : Type 0 where
+  own : call_of o ≡ None
+  some : 1 ≤ length (source o)
+
+own_more : (calls : List OuterCall) (xs : List Item) (u : Item) (us : List Item) → IsOwnByte u → length (text_from calls None xs) < length (text_from calls None (xs ++ u ∷ us))
+own_more calls xs u us h =
+    let first = ap (λ (cs : List ℕ). length (cs ++ text_from calls (call_of u) us)) (behind_page calls (last_of None xs) u h.own) in
+    let sum = length-append (source u) (text_from calls (call_of u) us) in
+    let all = text_size calls None xs (u ∷ us) in
+    omega (arith, first, sum, all, h.some)
+
+-- the same bytes are before an item of the page's own in both, so the same items are before it
+same_front : (calls : List OuterCall) (xs : List Item) (o : Item) (os gs : List Item) (p : Item) (ps : List Item) → xs ++ o ∷ os ≡ gs ++ p ∷ ps → IsOwnByte o → IsOwnByte p
+    → text_from calls None xs ≡ text_from calls None gs → (gs ≡ xs) × (p ∷ ps ≡ o ∷ os)
+same_front calls xs o os gs p ps e first second t = by (two_cuts xs (o ∷ os) gs (p ∷ ps) e)
   where
-    longer : (u : Item) (us : List Item) → xs ≡ gs ++ u ∷ us → EndsOwn xs → ⊥
-    longer u us is (inl z) = no_items gs u us (sym z ∙ is)
-    longer u us is (inr s) =
-        let b = end_behind gs u us s.front s.last (sym is ∙ s.is) in
-        let more : 1 ≤ length (text_from calls (last_of None gs) (u ∷ us)) =
-        subst (λ (zs : List Item). 1 ≤ length (text_from calls (last_of None gs) zs)) (sym b.1) (own_text_size calls (last_of None gs) b.0 s.last s.own s.some) in
-        let all = ap (λ (zs : List Item). length (text_from calls None zs)) is ∙ text_size calls None gs (u ∷ us) in
-        let same = ap length t in
-        omega (arith, more, all, same)
-
-    from_longer : (us : List Item) → xs ≡ gs ++ us → bs ≡ us ++ o ∷ os → (gs ≡ xs) × (bs ≡ o ∷ os)
+    from_longer : (us : List Item) → xs ≡ gs ++ us → p ∷ ps ≡ us ++ o ∷ os → (gs ≡ xs) × (p ∷ ps ≡ o ∷ os)
     from_longer [] is rest = (sym (is ∙ append-nil gs), rest)
-    from_longer (u ∷ us) is rest = absurd (longer u us is ends)
+    from_longer (u ∷ us) is rest =
+        let h : IsOwnByte u = subst IsOwnByte (ap (first_or p) rest) second in
+        let more = own_more calls gs u us h in
+        let all = ap (λ (zs : List Item). length (text_from calls None zs)) is in
+        let same = ap length t in
+        absurd (omega (arith, more, all, same))
 
-    by : FirstLonger xs (o ∷ os) gs bs ⊎ FirstShorter xs (o ∷ os) gs bs → (gs ≡ xs) × (bs ≡ o ∷ os)
+    by : FirstLonger xs (o ∷ os) gs (p ∷ ps) ⊎ FirstShorter xs (o ∷ os) gs (p ∷ ps) → (gs ≡ xs) × (p ∷ ps ≡ o ∷ os)
     by (inl l) = from_longer l.us l.xs_are l.bs_are
     by (inr s) =
-        let same : s.v ≡ o = ap (λ (zs : List Item). first_or o zs) (sym s.ys_are) in
-        let c : call_of s.v ≡ None = ap call_of same ∙ own in
-        let n : length (source s.v) ≡ length (source o) = ap (λ (x : Item). length (source x)) same in
-        let l : Option ℕ = last_of None xs in
-        let first = ap (λ (cs : List ℕ). length (cs ++ text_from calls (call_of s.v) s.vs)) (behind_page calls l s.v c) in
-        let sum = length-append (source s.v) (text_from calls (call_of s.v) s.vs) in
-        let all = ap (λ (zs : List Item). length (text_from calls None zs)) s.gs_are ∙ text_size calls None xs (s.v ∷ s.vs) in
-        let eq = ap length t in
-        absurd (omega (arith, n, first, sum, all, eq, some))
+        let h : IsOwnByte s.v = subst IsOwnByte (ap (first_or o) s.ys_are) first in
+        let more = own_more calls xs s.v s.vs h in
+        let all = ap (λ (zs : List Item). length (text_from calls None zs)) s.gs_are in
+        let same = ap length t in
+        absurd (omega (arith, more, all, same))
 
 -- ---- one block
 
@@ -267,64 +266,52 @@ block_front es b = line_front es b ++ b.marks
 pub record IsLinedHere (pages : Pages) (page : List ℕ) (open_tables : List Bool) (es : List Item) (b : LinedBlock) (tail : List (List Item)) (p : ℕ) (qs : List Item) : Type 0 where
   pub around : Round b tail
   pub items : es ++ joined (b.before ++ (((b.marks ++ b.first) ∷ b.more) ++ tail)) ≡ block_front es b ++ (content (own_items b) ++ (ending (own_items b) ++ joined tail))
-  pub ends : EndsOwn (block_front es b)
-  pub ended : AreEnded (text_from (calls_of pages page) None (block_front es b))
-  pub here : IsBlockHere pages page p (line_front es b) b.marks (content (own_items b)) b.block b.text (ending (own_items b) ++ joined tail) qs
+  pub here : IsBlockHere pages page p (block_front es b) (content (own_items b)) b.block b.text (ending (own_items b) ++ joined tail) qs
   pub block : AreBlockItems b.block b.text (content (own_items b))
   pub source_is : sources (content (own_items b)) ≡ source_of b.block b.text
   pub stays : StayText b.block (length (open_at open_tables b)) (content (own_items b))
   pub leads : LeadsInto b.block open_tables (joined b.before ++ b.marks)
   pub own : AreOfPage (content (own_items b))
-  pub next_at : text_to pages page p (line_front es b) + length (sources (b.marks ++ content (own_items b)))
-      ≡ block_to pages page p (line_front es b) b.marks b.block b.text
+  pub next_at : text_to pages page p (block_front es b) + length (sources (content (own_items b))) ≡ block_to pages page p (line_front es b) b.marks b.block b.text
+
+-- the content's first item is the page's own
+content_begins : (xs ys : List Item) → xs ≢ [] → AreOfPage xs → BeginsOwn (xs ++ ys)
+content_begins [] ys some h = absurd (some refl)
+content_begins (x ∷ xs) ys some h = inr (x, xs ++ ys, refl, h.0)
 
 pub lined_here : (pages : Pages) (page : List ℕ) (open_tables : List Bool) (es : List Item) (b : LinedBlock) (tail : List (List Item)) (p : ℕ) (qs xs : List Item)
     → AreRuns goes_on (b.before ++ (((b.marks ++ b.first) ∷ b.more) ++ tail)) xs → IsLeft es
-    → IsRest pages page p (es ++ joined (b.before ++ (((b.marks ++ b.first) ∷ b.more) ++ tail))) qs → IsLinedAt open_tables b → last_of None (joined b.before) ≡ None
-    → AreOfPage (b.marks ++ own_items b)
-    → AreBeside (text_to pages page p (line_front es b)) (text_to pages page p (line_front es b) + length (sources (b.marks ++ own_items b)))
-    (expanded_page pages page).text_calls
+    → IsRest pages page p (es ++ joined (b.before ++ (((b.marks ++ b.first) ∷ b.more) ++ tail))) qs → IsLinedAt open_tables b → AreOfPage (own_items b)
+    → AreBeside (text_to pages page p (block_front es b)) (text_to pages page p (block_front es b) + length (sources (own_items b))) (expanded_page pages page).text_calls
     → IsLinedHere pages page open_tables es b tail p qs
-lined_here pages page open_tables es b tail p qs xs runs left rest h none own beside =
-    let calls : List OuterCall = calls_of pages page in
+lined_here pages page open_tables es b tail p qs xs runs left rest h mine beside =
     let ts : List (List Item) = b.first ∷ b.more in
     let text : List Item = own_items b in
     let before : List Item = joined b.before in
-    let front : List Item = line_front es b in
+    let front : List Item = block_front es b in
     let others : List Item = content text ++ (ending text ++ joined tail) in
-    let marks : AreOfPage b.marks = of_front b.marks text own in
-    let mine : AreOfPage text = of_behind b.marks text own in
     let r : Round b tail = round b tail xs h.some runs (own_breaks text mine) in
     let n : ℕ = length (open_at open_tables b) in
     let block = own_block b.block n b.text ts r.y r.ys r.some r.own_are h.own in
     let inside : AreOfPage (content text) = of_front (content text) (ending text) (subst AreOfPage (sym (content_ending text)) mine) in
-    let ends_none : last_of None front ≡ None =
-    last_append None es before ∙ ap (λ (o : Option ℕ). last_of o before) (left_none es left) ∙ none in
-    let items : es ++ joined (b.before ++ (((b.marks ++ b.first) ∷ b.more) ++ tail)) ≡ front ++ (b.marks ++ others) =
-    ap (λ zs. es ++ zs) (r.items ∙ append_assoc before b.marks others) ∙ sym (append_assoc es before (b.marks ++ others)) in
+    let items : es ++ joined (b.before ++ (((b.marks ++ b.first) ∷ b.more) ++ tail)) ≡ front ++ others =
+    ap (λ zs. es ++ zs) (r.items ∙ append_assoc before b.marks others) ∙ sym (append_assoc es before (b.marks ++ others))
+    ∙ sym (append_assoc (line_front es b) b.marks others) in
     let is_source : sources (content text) ≡ source_of b.block b.text = own_source b.block n b.text ts h.own in
-    let line : ℕ = text_to pages page p front in
-    let to : ℕ = block_to pages page p front b.marks b.block b.text in
+    let from : ℕ = text_to pages page p front in
+    let to : ℕ = from + length (source_of b.block b.text) in
     let spans : List Span = (expanded_page pages page).text_calls in
-    let e1 = ap length (marked_text calls front b.marks ends_none marks) in
-    let e2 = length-append (text_from calls None front) (sources b.marks) in
-    let e3 = ap length is_source in
-    let e4 = sources_size b.marks (content text) in
-    let e5 = sources_size b.marks text in
-    let e6 = sources_size (content text) (ending text) in
-    let e7 = ap (λ (zs : List Item). length (sources zs)) (content_ending text) in
-    let next_at : line + length (sources (b.marks ++ content text)) ≡ to = omega (arith, e1, e2, e3, e4) in
-    let within : to ≤ line + length (sources (b.marks ++ text)) = omega (arith, e1, e2, e3, e5, e6, e7) in
-    let beside_block : AreBeside line to spans = beside_front line to (line + length (sources (b.marks ++ text))) spans within beside in
-    let ends : EndsBreak front = own_end None front (left_whole es before left r.front_whole) ends_none in
-    let here = block_here pages page p front b.marks (content text) b.block b.text (ending text ++ joined tail) qs
-    (subst (λ zs. IsRest pages page p zs qs) items rest) ends_none marks inside block.0 is_source beside_block in
+    let e1 = ap length is_source in
+    let e2 = sources_size (content text) (ending text) in
+    let e3 = ap (λ (zs : List Item). length (sources zs)) (content_ending text) in
+    let next_at : from + length (sources (content text)) ≡ to = omega (arith, e1) in
+    let within : to ≤ from + length (sources text) = omega (arith, e1, e2, e3) in
+    let here = block_here pages page p front (content text) b.block b.text (ending text ++ joined tail) qs (subst (λ zs. IsRest pages page p zs qs) items rest)
+    (content_begins (content text) (ending text ++ joined tail) (block_some b.block b.text (content text) block.0) inside) inside block.0 is_source
+    (beside_front from to (from + length (sources text)) spans within beside) in
     record {
       around = r;
-      items = items ∙ sym (append_assoc front b.marks others);
-      ends = own_behind front b.marks ends marks here.marks;
-      ended = subst AreEnded (sym here.marked) (both_end (text_from calls None front) (sources b.marks) (ended_text calls front ends)
-          (here.marks_end h.are_marks (item_some (content text) (block_some b.block b.text (content text) block.0))));
+      items = items;
       here = here;
       block = block.0;
       source_is = is_source;
@@ -374,12 +361,14 @@ parts_here pages page open_tables es b tail p qs l k ss end calm e t =
     let x2 : List Item = part_items pages (calls_to pages k s) line in
     let x3 : List Item = called_items pages (calls_past pages k s) ss end in
     let some = some_first own (block_some b.block b.text own l.block) in
-    let whole : front ++ some.0 ∷ (some.1 ++ rest) ≡ x1 ++ (x2 ++ x3) = ap (λ zs. front ++ (zs ++ rest)) (sym some.2) ∙ sym l.items ∙ e in
+    let second : x2 ≡ own = calm_items pages (calls_to pages k s) line calm ∙ l.here.alone in
+    let whole : front ++ some.0 ∷ (some.1 ++ rest) ≡ x1 ++ some.0 ∷ (some.1 ++ x3) =
+    ap (λ zs. front ++ (zs ++ rest)) (sym some.2) ∙ sym l.items ∙ e ∙ ap (λ zs. x1 ++ (zs ++ x3)) (second ∙ some.2) in
     let first_own : AreOfPage (some.0 ∷ some.1) = subst AreOfPage some.2 l.own in
     let first_some : HaveBytes (some.0 ∷ some.1) = subst HaveBytes some.2 l.here.some in
-    let same = same_front (calls_of pages page) front some.0 (some.1 ++ rest) x1 (x2 ++ x3) whole l.ends first_own.0 first_some.0 (sym t) in
-    let second : x2 ≡ own = calm_items pages (calls_to pages k s) line calm ∙ l.here.alone in
-    let both : own ++ rest ≡ own ++ x3 = ap (λ zs. zs ++ rest) some.2 ∙ sym same.1 ∙ ap (λ zs. zs ++ x3) second in
+    let byte : IsOwnByte some.0 = record { own = first_own.0; some = first_some.0 } in
+    let same = same_front (calls_of pages page) front some.0 (some.1 ++ rest) x1 some.0 (some.1 ++ x3) whole byte byte (sym t) in
+    let both : own ++ rest ≡ own ++ x3 = ap (λ zs. zs ++ rest) some.2 ∙ sym same.1 ∙ ap (λ zs. zs ++ x3) (sym some.2) in
     record {
       first = same.0;
       rest = cancel own rest x3 both;
@@ -402,11 +391,11 @@ record AreLinedCuts (pages : Pages) (page : List ℕ) (last : TextBlock) (open_t
 
 further : (pages : Pages) (page : List ℕ) (last : TextBlock) (open_tables : List Bool) (es : List Item) (ls : List LinedBlock) (behind : List (List Item)) (p : ℕ)
     (qs xs : List Item) → AreRuns goes_on (all_lines ls behind) xs → IsEnding es → ((m : List Item) (ms : List (List Item)) → all_lines ls behind ≡ m ∷ ms → es ≡ break ∷ [])
-    → IsRest pages page p (es ++ joined (all_lines ls behind)) qs → AreLinedAfter last open_tables ls behind → AreOwnLines ls
+    → IsRest pages page p (es ++ joined (all_lines ls behind)) qs → AreLinedAfter last open_tables ls behind → AreOwnLines ls → AreLed (spots_on (calls_of pages page) es ls)
     → EndClosed (spots_on (calls_of pages page) es ls) (end_on (calls_of pages page) es ls behind)
     → AreUntouched (calls_of pages page) (expanded_page pages page).text_calls p es ls
     → AreLinedCuts pages page last open_tables es ls behind p qs
-further pages page last open_tables es [] behind p qs xs runs i f r h own c u =
+further pages page last open_tables es [] behind p qs xs runs i f r h own led c u =
     let calls : List OuterCall = calls_of pages page in
     let lined : AreRuns goes_on behind (joined behind) = subst (λ ys. AreRuns goes_on behind ys) (joined_is goes_on behind xs runs) runs in
     record {
@@ -416,14 +405,14 @@ further pages page last open_tables es [] behind p qs xs runs i f r h own c u =
       source = r.same;
       stand = λ k e t. subst (EndsAfter last (length open_tables)) e (lines_end last (length open_tables) es behind i f (lines_of behind lined) h).1;
     }
-further pages page last open_tables es (b ∷ ls) behind p qs xs runs i f r h own c u =
+further pages page last open_tables es (b ∷ ls) behind p qs xs runs i f r h own led c u =
     let calls : List OuterCall = calls_of pages page in
     let tail : List (List Item) = all_lines ls behind in
     let front : List Item = joined b.before ++ b.marks in
     let some = some_lines b.before (b.marks ++ b.first) (b.more ++ tail) in
     let is_break : es ≡ break ∷ [] = f some.0 some.1 some.2 in
     let l : IsLinedHere pages page open_tables es b tail p qs =
-    lined_here pages page open_tables es b tail p qs xs runs (inr is_break) r h.1 own.0 own.1 u.0 in
+    lined_here pages page open_tables es b tail p qs xs runs (inr is_break) r h.1 own.0 u.0 in
     let now : List Bool = open_at open_tables b in
     let left : List Item = ending (own_items b) in
     let ss : List BlockSpot = spots_on calls left ls in
@@ -431,14 +420,14 @@ further pages page last open_tables es (b ∷ ls) behind p qs xs runs i f r h ow
     let end_at : ℕ = block_to pages page p (line_front es b) b.marks b.block b.text in
     let d : AreLinedCuts pages page b.block now left ls behind end_at l.here.behind =
     further pages page b.block now left ls behind end_at l.here.behind (joined tail) l.around.tail_runs l.around.own_ending
-    l.around.ends l.here.next h.2 own.3 c.1 (subst (λ (n : ℕ). AreUntouched calls (expanded_page pages page).text_calls n left ls) l.next_at u.1) in
-    let calm : CallsNothing (page_items (source_of b.block b.text)) = subst CallsNothing (sym l.here.alone) own.2 in
+    l.around.ends l.here.next h.2 own.2 led.1 c.1 (subst (λ (n : ℕ). AreUntouched calls (expanded_page pages page).text_calls n left ls) l.next_at u.1) in
+    let calm : CallsNothing (page_items (source_of b.block b.text)) = subst CallsNothing (sym l.here.alone) own.1 in
     let rows : List Row = written_rows (length open_tables) b.before in
     let same : rows_of_part open_tables front ≡ rows = rows_by open_tables b.before b.marks h.1.are_marks l.around.front_are l.around.front_whole in
     record {
       cuts = (
         record { before = l.here.before; own = content (own_items b); rest = l.here.behind; is = l.here.is; source = l.here.source; block = l.block },
-        inl l.ended,
+        led.0,
         subst (λ (zs : List Item). BeginsBreak (text_from calls None (block_front zs b))) (sym is_break) refl,
         c.0,
         d.cuts,
@@ -494,7 +483,7 @@ lined_among pages page (b ∷ ls) behind h =
     let all : xs ≡ joined (b.before ++ (ts ++ tail)) = joined_is goes_on (b.before ++ (ts ++ tail)) xs runs in
     let r : IsRest pages page 0 ([] ++ joined (b.before ++ (ts ++ tail))) (page_items page) = page_rest pages page (b.before ++ (ts ++ tail)) all in
     let l : IsLinedHere pages page [] [] b tail 0 (page_items page) =
-    lined_here pages page [] [] b tail 0 (page_items page) xs runs (inl refl) r h.lined.0 h.own.0 h.own.1 h.untouched.0 in
+    lined_here pages page [] [] b tail 0 (page_items page) xs runs (inl refl) r h.lined.0 h.own.0 h.untouched.0 in
     let now : List Bool = open_at [] b in
     let left : List Item = ending (own_items b) in
     let s : BlockSpot = spot_of pages page [] b in
@@ -503,14 +492,14 @@ lined_among pages page (b ∷ ls) behind h =
     let end_at : ℕ = block_to pages page 0 (joined b.before) b.marks b.block b.text in
     let d : AreLinedCuts pages page b.block now left ls behind end_at l.here.behind =
     further pages page b.block now left ls behind end_at l.here.behind (joined tail) l.around.tail_runs l.around.own_ending
-    l.around.ends l.here.next h.lined.1 h.own.3 h.closed.1
+    l.around.ends l.here.next h.lined.1 h.own.2 h.led.1 h.closed.1
     (subst (λ (n : ℕ). AreUntouched calls (expanded_page pages page).text_calls n left ls) l.next_at h.untouched.1) in
-    let calm : CallsNothing (page_items (source_of b.block b.text)) = subst CallsNothing (sym l.here.alone) h.own.2 in
+    let calm : CallsNothing (page_items (source_of b.block b.text)) = subst CallsNothing (sym l.here.alone) h.own.1 in
     let same : spots_source (s ∷ ss) end ≡ page = spot_source pages page [] [] b tail 0 (page_items page) l ss end d.source ∙ page_sources page in
     let utf8 : IsUtf8 (spots_source (s ∷ ss) end) = subst IsUtf8 (sym same) h.utf8 in
     let cuts : AreCuts (s ∷ ss) end = (
       record { before = l.here.before; own = content (own_items b); rest = l.here.behind; is = ap page_items same ∙ l.here.is; source = l.here.source; block = l.block },
-      inl l.ended,
+      h.led.0,
       h.closed.0,
       d.cuts,
     ) in

@@ -100,24 +100,47 @@ behind_clear vs ws us p (inr m) a h =
     let all : IsClear p 0 (members (lexeme (Chars, m.second) ∷ later)) = (tt, rest) in
     subst (λ xs. IsClear p 0 (members xs)) (sym c.second_is) all
 
+-- a place of the first one
+clear_last : (p at : ℕ) (xs : List Member) (w : Word) → IsClear p at (members xs) → IsClear p at (members (xs ++ lexeme w ∷ []))
+clear_last p at [] w h = (tt, tt)
+clear_last p at (x ∷ xs) w h = (h.0, clear_last p (at + width x) xs w h.1)
+
+front_clear : (vs ws us : List Word) (p : ℕ) → AreMet vs ws us → AreApart vs ws → IsClear p 0 (members (reduced us)) → IsClear p 0 (members (reduced vs))
+front_clear vs ws us p (inl e) a h =
+    let is : reduced us ≡ reduced vs ++ reduced ws = ap reduced e ∙ reduced_apart vs ws a in
+    (clear_append p 0 (reduced vs) (reduced ws) (subst (λ xs. IsClear p 0 (members xs)) is h)).0
+front_clear vs ws us p (inr m) a h =
+    let c = run_cut vs ws us a m in
+    let front : List Member = reduced m.before in
+    let run : Member = lexeme (Chars, m.first + m.second) in
+    let r = clear_append p 0 front (run ∷ reduced m.after) (subst (λ xs. IsClear p 0 (members xs)) c.both_is h) in
+    subst (λ xs. IsClear p 0 (members xs)) (sym c.first_is) (clear_last p 0 front (Chars, m.first) r.0)
+
 -- ---- of a page
 
 abbrev pub members_of : List ℕ → Members
 members_of bs = members (reduced (words Page bs))
 
-abbrev AreSide : List ℕ → List ℕ → Type 0
+abbrev pub AreSide : List ℕ → List ℕ → Type 0
 AreSide bs cs = AreMet (words Page bs) (words Page cs) (words Page (bs ++ cs))
 
-page_apart : (bs cs : List ℕ) → AreSide bs cs → IsClear (length bs) 0 (members_of (bs ++ cs)) → AreApart (words Page bs) (words Page cs)
+pub page_apart : (bs cs : List ℕ) → AreSide bs cs → IsClear (length bs) 0 (members_of (bs ++ cs)) → AreApart (words Page bs) (words Page cs)
 page_apart bs cs m h =
     clear_apart (words Page bs) (words Page cs) (words Page (bs ++ cs)) m
     (subst (λ (n : ℕ). IsClear n 0 (members_of (bs ++ cs))) (sym (text_bytes Page bs)) h)
 
-page_behind : (bs cs : List ℕ) (p : ℕ) → AreSide bs cs → AreApart (words Page bs) (words Page cs) → IsClear (length bs + p) 0 (members_of (bs ++ cs))
+pub page_behind : (bs cs : List ℕ) (p : ℕ) → AreSide bs cs → AreApart (words Page bs) (words Page cs) → IsClear (length bs + p) 0 (members_of (bs ++ cs))
     → IsClear p 0 (members_of cs)
 page_behind bs cs p m a h =
     behind_clear (words Page bs) (words Page cs) (words Page (bs ++ cs)) p m a
     (subst (λ (n : ℕ). IsClear (n + p) 0 (members_of (bs ++ cs))) (sym (text_bytes Page bs)) h)
+
+pub page_front : (bs cs : List ℕ) (p : ℕ) → AreSide bs cs → AreApart (words Page bs) (words Page cs) → IsClear p 0 (members_of (bs ++ cs)) → IsClear p 0 (members_of bs)
+page_front bs cs p m a h = front_clear (words Page bs) (words Page cs) (words Page (bs ++ cs)) p m a h
+
+-- a part of members
+pub clear_rest : (p : ℕ) (xs ys : List Member) → IsClear p 0 (members (xs ++ ys)) → IsClear p (0 + width_of_all (members xs)) (members ys)
+clear_rest p xs ys h = (clear_append p 0 xs ys h).1
 
 -- at the beginning and the end of each block, where so many bytes come before the first part
 abbrev pub AreClear : ℕ → List BlockSpot → Members → Type 0

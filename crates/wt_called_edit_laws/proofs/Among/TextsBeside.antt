@@ -1,11 +1,11 @@
 -- A call that is text and shares no byte with a block has none of its lines: it begins before a brace and ends behind a character, so it neither ends in the
 -- marks before the block nor begins at the line break behind it.
-use Rattle.std.proofs.Common.{arith, ◌≡◌, ◌≤◌, ◌<◌, ◌⊎◌, inl, inr, ℕ, zero, suc, ◌+◌, Bool, true, false, Option, Some, None, List, [], ◌∷◌, ◌++◌, length, nat_lt, refl, sym, ap, ap₂, ◌∙◌, subst, append_assoc, append-nil}
+use Rattle.std.proofs.Common.{arith, ◌≡◌, ◌≤◌, ◌<◌, ◌⊎◌, inl, inr, ℕ, zero, suc, Bool, true, false, Option, Some, None, List, [], ◌∷◌, ◌++◌, length, nat_lt, refl, sym, ap, ap₂, ◌∙◌, subst, append_assoc, append-nil}
 use Rattle.std.specs.Prelude.{◌&&◌, ◌||◌}
 use Rattle.std.specs.List.{list_all, list_any}
 use Rattle.std.proofs.lemmas.Bool.Decides.{nat_tests}
 use Rattle.wt_span.specs.Bytes.{is_break}
-use Rattle.wt_span.specs.Items.{Item, char, whole, is_mark, source, sources, call_of}
+use Rattle.wt_span.specs.Items.{Item, char, whole, is_mark}
 use Rattle.wt_span.specs.Origins.{OuterCall, Span}
 use Rattle.wt_annotated.specs.Seams.{last_of, text_from}
 use Rattle.wt_expand.specs.PageCalls.{expanded_page, page_stretches}
@@ -17,7 +17,7 @@ use Rattle.wt_isolation.specs.TextCalls.{share_byte, touches_text_call}
 use Rattle.wt_called_edit_laws.specs.LinedAmong.{AreBeside}
 use Rattle.wt_called_edit_laws.proofs.Among.Flattened.{page_opened}
 use Rattle.wt_called_edit_laws.proofs.Among.PartsApart.{members_of}
-use Rattle.wt_called_edit_laws.proofs.Among.OwnSeams.{FirstLonger, FirstShorter, two_cuts, end_behind, text_size, first_size, last_size, first_or, stretches}
+use Rattle.wt_called_edit_laws.proofs.Among.OwnSeams.{FirstLonger, FirstShorter, two_cuts, end_behind, text_size, first_size, last_size, first_or}
 use Rattle.wt_called_edit_laws.proofs.Among.OwnItems.{page_at}
 use Rattle.wt_called_edit_laws.proofs.Among.TextEnds.{IsTextIn, AreTextsIn, texts_in}
 
@@ -189,20 +189,13 @@ pub apart_ranges : (calls : List OuterCall) (xs : List Item) (o : Option Ranges)
 apart_ranges calls xs None ss t e some = absurd (omega (arith, some))
 apart_ranges calls xs (Some r) ss t e some = apart_all calls xs r ss t e some
 
-one_beside : (calls : List OuterCall) (fs ms cs es zs : List Item) (s : Span) → IsTextIn calls None 0 (fs ++ (ms ++ (cs ++ (es ++ zs)))) s
-    → list_all is_mark ms ≡ true → IsOwnEnd es
-    → (s.1 ≤ length (text_from calls None (fs ++ ms))) ⊎ (length (text_from calls None ((fs ++ ms) ++ cs)) ≤ s.0)
-    → (s.1 ≤ length (text_from calls None fs)) ⊎ (length (text_from calls None (((fs ++ ms) ++ cs) ++ es)) ≤ s.0)
-one_beside calls fs ms cs es zs s t m e (inl h) = inl (ends_before calls fs ms (cs ++ (es ++ zs)) s t m h)
-one_beside calls fs ms cs es zs s t m e (inr h) =
-    let whole : fs ++ (ms ++ (cs ++ (es ++ zs))) ≡ ((fs ++ ms) ++ cs) ++ (es ++ zs) =
-    sym (append_assoc fs ms (cs ++ (es ++ zs))) ∙ sym (append_assoc (fs ++ ms) cs (es ++ zs)) in
-    inr (begins_behind calls ((fs ++ ms) ++ cs) es zs s (subst (λ (xs : List Item). IsTextIn calls None 0 xs s) whole t) e h)
-
-pub all_beside : (calls : List OuterCall) (fs ms cs es zs : List Item) (ss : List Span) → AreTextsIn calls None 0 (fs ++ (ms ++ (cs ++ (es ++ zs)))) ss
-    → list_all is_mark ms ≡ true → IsOwnEnd es
-    → AreBeside (length (text_from calls None (fs ++ ms))) (length (text_from calls None ((fs ++ ms) ++ cs))) ss
-    → AreBeside (length (text_from calls None fs)) (length (text_from calls None (((fs ++ ms) ++ cs) ++ es))) ss
-all_beside calls fs ms cs es zs [] t m e h = tt
-all_beside calls fs ms cs es zs (s ∷ ss) t m e h =
-    (one_beside calls fs ms cs es zs s t.0 m e h.0, all_beside calls fs ms cs es zs ss t.1 m e h.1)
+pub all_beside : (calls : List OuterCall) (fs cs es zs : List Item) (ss : List Span) → AreTextsIn calls None 0 ((fs ++ cs) ++ (es ++ zs)) ss → IsOwnEnd es
+    → AreBeside (length (text_from calls None fs)) (length (text_from calls None (fs ++ cs))) ss
+    → AreBeside (length (text_from calls None fs)) (length (text_from calls None ((fs ++ cs) ++ es))) ss
+all_beside calls fs cs es zs [] t e h = tt
+all_beside calls fs cs es zs (s ∷ ss) t e h = (by h.0, all_beside calls fs cs es zs ss t.1 e h.1)
+  where
+    by : (s.1 ≤ length (text_from calls None fs)) ⊎ (length (text_from calls None (fs ++ cs)) ≤ s.0)
+        → (s.1 ≤ length (text_from calls None fs)) ⊎ (length (text_from calls None ((fs ++ cs) ++ es)) ≤ s.0)
+    by (inl g) = inl g
+    by (inr g) = inr (begins_behind calls (fs ++ cs) es zs s t.0 e g)

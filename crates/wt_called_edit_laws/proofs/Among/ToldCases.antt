@@ -1,5 +1,5 @@
 -- Worked case: a page with a call, told by nothing but the lines of the expanded page: of a heading, and of a paragraph in a cell.
-use Rattle.std.proofs.Common.{arith, ◌≡◌, ℕ, ◌+◌, None, Some, List, [], ◌∷◌, ◌++◌, length, map, refl, sym, ap, ◌∙◌, subst}
+use Rattle.std.proofs.Common.{arith, ◌≡◌, inl, ℕ, ◌+◌, None, Some, List, [], ◌∷◌, ◌++◌, length, map, refl, sym, ap, ◌∙◌, subst}
 use Rattle.std.specs.Prelude.{codes}
 use Rattle.std.specs.Str.{is_utf8, chars, IsUtf8}
 use Rattle.std.specs.Str.Lossy.{utf8_valid_len}
@@ -47,7 +47,7 @@ use Rattle.wt_text_edit_laws.specs.TextBlocks.{a_paragraph, a_heading}
 use Rattle.wt_text_edit_laws.specs.TypedHeadings.{spaced}
 use Rattle.wt_called_edit_laws.specs.Covered.{AreInNoGroup}
 use Rattle.wt_called_edit_laws.specs.Groups.{called_tree}
-use Rattle.wt_called_edit_laws.specs.LinedAmong.{spots_of_lines, end_of_lines, AreOfPage, AreOwnLines, AreUntouched}
+use Rattle.wt_called_edit_laws.specs.LinedAmong.{spots_of_lines, end_of_lines, AreOfPage, AreOwnLines, AreLed, AreUntouched}
 use Rattle.wt_called_edit_laws.specs.PlacedLines.{LinedBlock, all_lines}
 use Rattle.wt_called_edit_laws.specs.ToldAmong.{IsToldAmong}
 use Rattle.wt_called_edit_laws.specs.ToldLines.{Told, a_paragraph_of, a_heading_on, lined, AreTold}
@@ -101,9 +101,9 @@ spots_are = refl
 untouched_by_none : (calls : List OuterCall) (bs : List LinedBlock) (at : ℕ) (es : List Item) → AreUntouched calls [] at es bs
 untouched_by_none calls [] at es = tt
 untouched_by_none calls (b ∷ bs) at es =
-    let line : ℕ = at + length (text_from calls None (es ++ joined b.before)) in
+    let from : ℕ = at + length (text_from calls None ((es ++ joined b.before) ++ b.marks)) in
     let own : List Item = joined (b.first ∷ b.more) in
-    (tt, untouched_by_none calls bs (line + length (sources (b.marks ++ content own))) (ending own))
+    (tt, untouched_by_none calls bs (from + length (sources (content own))) (ending own))
 
 -- ---- its lines
 
@@ -129,7 +129,7 @@ own_chars [] = tt
 own_chars (b ∷ bs) = (refl, tt, own_chars bs)
 
 own_lines : AreOwnLines (map lined told)
-own_lines = (refl, own_chars (codes "== h ==\n"), tt, (refl, own_chars (codes "x<br>y\n"), tt, tt))
+own_lines = (own_chars (codes "== h ==\n"), tt, (own_chars (codes "x<br>y\n"), tt, tt))
 
 -- ---- its blocks
 
@@ -168,6 +168,7 @@ told_page = record {
   are = ap full_lines are_items ∙ lines_are;
   told = told_here;
   own = own_lines;
+  led = subst AreLed (sym spots_are) (inl refl, (inl refl, tt));
   free = subst AreFree (sym spots_are) (free_title, (free_cell, tt));
   untouched = subst (λ (ss : List Span). AreUntouched (expanded_page a_word whole_page).outer ss 0 [] (map lined told)) (sym no_text_calls)
       (untouched_by_none (expanded_page a_word whole_page).outer (map lined told) 0 []);

@@ -195,10 +195,10 @@ unfolding label_at context_parts chunks segments loose_segments tiles shapes clo
 own_nodes = (
   (tt, ((λ e. cc), (tt, tt))),
   (
-    record { inline = refl; free = inr (refl, tt); shows = λ n. absurd n },
+    record { inline = refl; shows = λ n. absurd n },
     (
-      record { inline = refl; free = inl refl; shows = λ n. group_shows },
-      (record { inline = refl; free = inr (refl, tt); shows = λ n. absurd n }, tt),
+      record { inline = refl; shows = λ n. group_shows },
+      (record { inline = refl; shows = λ n. absurd n }, tt),
     ),
   ),
 )

@@ -250,9 +250,9 @@ here = record {
   among = among;
   read = is_read;
   lines = λ i. subst AreTextItems (sym (items_are i)) (is_text i);
-  texts = λ i.
+  texts = λ calls i a.
       let xs : List Item = part_items a_void i source in
-      simple_parts xs (content_parts_of a_paragraph xs) (subst AreOwnOrGiven (sym (parts_there i)) (own_here i));
+      simple_parts calls xs (content_parts_of a_paragraph xs) (subst AreOwnOrGiven (sym (parts_there i)) (own_here i));
   groups = groups_there;
   shut = λ i. subst AreShutParts (sym (parts_there i)) (shut_here i);
   some = λ i. subst HasOwn (sym (parts_there i)) tt;

@@ -7,6 +7,7 @@ use Rattle.wt_tree.specs.declared.kind.Mark.TheVariants as marks
 use Rattle.wt_tree.specs.declared.edit_shape.Place.{Place}
 use Rattle.wt_tree.specs.EditShapes.{edit_shape}
 use Rattle.wt_tree.specs.Kinds.{is_leaf}
+use Rattle.wt_tree.specs.Tiling.{is_group}
 use Rattle.wt_tree.specs.Plain.{Face, face, Plains, ended, along, element, plain_before}
 use Rattle.wt_tree.specs.Source.{flat}
 use Rattle.wt_tree.specs.Tree.{Label, Tree, tree, Trees, label}
@@ -46,6 +47,8 @@ use Rattle.wt_called_edit_laws.specs.WholeContents.{IsWholeIn}
 use Rattle.wt_called_edit_laws.specs.WrittenAnew.{IsWrittenBeside, IsWrittenInHeading, IsWrittenIn, HoldsAnywhere}
 use Rattle.wt_called_edit_laws.proofs.Beside.Counts.{block_bare, settled_counts}
 use Rattle.wt_called_edit_laws.proofs.Beside.Found.{AreFound, nodes_found}
+use Rattle.wt_called_edit_laws.proofs.Beside.GroupsFound.{groups_found}
+use Rattle.wt_called_edit_laws.specs.FoundGroups.{HaveFoundGroups}
 use Rattle.wt_called_edit_laws.proofs.Beside.Sent.{sent_signs, pieces_sent, pieces_things, pieces_characters, pieces_line, pieces_show, pieces_inline}
 use Rattle.wt_called_edit_laws.proofs.Beside.Uncalled.{sent_styled}
 use Rattle.wt_called_edit_laws.proofs.Whole.Contents.{written_whole}
@@ -114,6 +117,16 @@ pub no_leaf : (k : TextBlock) → is_leaf (kind_of (block_of k)) ≡ false
 no_leaf a_paragraph = refl
 no_leaf (a_heading w) = refl
 
+no_group : (k : TextBlock) → is_group (kind_of (block_of k)) ≡ false
+no_group a_paragraph = refl
+no_group (a_heading w) = refl
+
+-- the groups in it are found by their numbers
+pub block_groups : (pages : Pages) (k : TextBlock) (q : List ℕ) (block : Tree) → IsSettledIn pages k q block → HaveFoundGroups (kept_nodes block) (children_of block)
+block_groups pages k q block i =
+    groups_found block i.number i.at (cut_texts (block_in i.calls (tree_round k (part_items pages i.before q)))) i.some
+    (block_bare i.calls (tree_round k (part_items pages i.before q))) i.is (ap is_group (block_kind pages k q block i) ∙ no_group k)
+
 block_found : (pages : Pages) (k : TextBlock) (q : List ℕ) (block : Tree) → IsSettledIn pages k q block → IsBesideCalls pages k q block
     → AreFound (kept_nodes block) (children_of block)
 block_found pages k q block i h =
@@ -121,7 +134,7 @@ block_found pages k q block i h =
     let counts : counts_up i.number (kept_nodes block) ≡ true =
     subst (λ (t : Tree). counts_up i.number (kept_nodes t) ≡ true) (sym i.is)
     (settled_counts i.number i.at v i.some (block_bare i.calls (tree_round k (part_items pages i.before q)))) in
-    nodes_found block i.number i.some counts (ap is_leaf (block_kind pages k q block i) ∙ no_leaf k) h.own
+    nodes_found block i.number i.some counts (ap is_leaf (block_kind pages k q block i) ∙ no_leaf k) h.own (block_groups pages k q block i)
 
 -- the node of the edit is the page's
 pub node_by : (k : Kind) (block : Tree) (ts : Trees) → (label block).kind ≡ k → ts ≡ children_of block → tree (record (label block) { kind = k }) ts ≡ block

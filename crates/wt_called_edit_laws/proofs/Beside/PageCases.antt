@@ -121,10 +121,10 @@ here = record {
   among = among;
   read = is_read;
   lines = λ i. subst AreTextItems (sym (items_are i)) (is_text i);
-  texts = λ i.
+  texts = λ calls i a.
       let xs : List Item = part_items a_word i source in
       let p : AreGivenParts xs = parts_here i in
-      simple_parts xs (content_parts_of a_paragraph xs) p.texts;
+      simple_parts calls xs (content_parts_of a_paragraph xs) p.texts;
   groups = λ i. let p = parts_here i in p.groups;
   shut = λ i. let p = parts_here i in p.shut;
   some = λ i. let p = parts_here i in p.some;

@@ -22,6 +22,7 @@ use Rattle.wt_link_spelling.specs.Spelling.{kept_thing, as_it_stood, unless_kept
 use Rattle.wt_expand.specs.PageCalls.{expanded_page}
 use Rattle.wt_expand.specs.Work.{Pages}
 use Rattle.wt_part_laws.specs.Expanded.{part_items}
+use Rattle.wt_typed_blocks.proofs.SentGroups.{in_group}
 use Rattle.wt_typed_blocks.specs.Sent.{StandsAsIs}
 use Rattle.wt_typed_blocks.specs.Edited.{Pieces, no_pieces, gone, written, kept, around, new_style, page_pieces, text_node, sent_pieces, PiecesStay, pieces_before}
 use Rattle.wt_typed_blocks.specs.EditedUnmarked.{AreInline}
@@ -43,11 +44,11 @@ use Rattle.wt_beside_laws.proofs.LineShown.{twice}
 use Rattle.wt_beside_laws.proofs.SentNodes.{things_append, no_things}
 use Rattle.wt_beside_laws.proofs.SentPieces.{text_sent}
 use Rattle.wt_beside_laws.proofs.SentShown.{all_encoded}
-use Rattle.wt_called_edit_laws.specs.CalledEdits.{IsGroupOrFree, AreChildrenBeside, AreGoneCalm}
+use Rattle.wt_called_edit_laws.specs.CalledEdits.{AreChildrenBeside, AreGoneCalm}
 use Rattle.wt_called_edit_laws.specs.PageThings.{ThingsStay}
 use Rattle.wt_called_edit_laws.proofs.Beside.Found.{FoundBy, AreFound}
-use Rattle.wt_called_edit_laws.specs.FoundGroups.{IsFoundAs}
-use Rattle.wt_called_edit_laws.proofs.Beside.Holding.{none_found, round_unchanged}
+use Rattle.wt_called_edit_laws.specs.FoundGroups.{IsFoundAs, HasFoundGroups}
+use Rattle.wt_called_edit_laws.proofs.Beside.Holding.{round_unchanged}
 
 -- ---- a node that stays is unchanged
 
@@ -55,15 +56,15 @@ pub same_kept : (a b : Kept) → Some a ≡ Some b → a ≡ b
 same_kept a b e = cc
 
 kept_unchanged : (same : Tree → Tree → Bool) (block : Tree) (l m : Label) (ts us : Trees) → TellsSame same → StandsAsIs (tree l ts) (tree m us)
-    → IsGroupOrFree (tree l ts) → (f : IsFoundAs (kept_nodes block) l ts) → is_unchanged (page_of same block) f.kept (tree m us) ≡ true
-kept_unchanged same block l m ts us tells h (inl g) f =
+    → HasFoundGroups (kept_nodes block) (tree l ts) → (f : IsFoundAs (kept_nodes block) l ts) → is_unchanged (page_of same block) f.kept (tree m us) ≡ true
+kept_unchanged same block l m ts us tells h d f =
     let now : Tree = restored (kept_nodes block) (tree m us) in
-    ap (λ (t : Tree). is_group (label t).kind || same now t) f.node ∙ ap (λ (b : Bool). b || same now (tree l ts)) g
-kept_unchanged same block l m ts us tells h (inr free) f =
-    round_unchanged same block l m ts us tells h free.0 (none_found (kept_nodes block) ts free.1) f
+    in_group (is_group l.kind) d
+    (λ g x. ap (λ (t : Tree). is_group (label t).kind || same now t) f.node ∙ ap (λ (b : Bool). b || same now (tree l ts)) g)
+    (λ g a. round_unchanged same block l m ts us tells h g a f)
 
 pub as_kept : (same : Tree → Tree → Bool) (block : Tree) (l m : Label) (ts us : Trees) → TellsSame same → StandsAsIs (tree l ts) (tree m us)
-    → IsGroupOrFree (tree l ts) → IsFoundAs (kept_nodes block) l ts → IsUnchanged (page_of same block) m us
+    → HasFoundGroups (kept_nodes block) (tree l ts) → IsFoundAs (kept_nodes block) l ts → IsUnchanged (page_of same block) m us
 as_kept same block l m ts us tells h g f = record {
   kept = f.kept;
   found = ap (λ (i : ℕ). kept_with i (kept_nodes block)) h.0.id ∙ f.found;
@@ -71,17 +72,17 @@ as_kept same block l m ts us tells h g f = record {
 }
 
 sent_by : (w : InlineForm) (same : Tree → Tree → Bool) (block : Tree) (l m : Label) (ts us : Trees) → TellsSame same → StandsAsIs (tree l ts) (tree m us)
-    → IsGroupOrFree (tree l ts) → FoundBy w (kept_nodes block) l ts → IsSentBy w (page_of same block) m us
-sent_by inline.Nothing same block l m ts us tells h g f = tt
-sent_by inline.Characters same block l m ts us tells h g f = tt
-sent_by inline.Bold same block l m ts us tells h g f = f
-sent_by inline.Italic same block l m ts us tells h g f = f
-sent_by inline.Shown same block l m ts us tells h g f = as_kept same block l m ts us tells h g f
-sent_by inline.PageLink same block l m ts us tells h g f = as_kept same block l m ts us tells h g f
-sent_by inline.ExternalLink same block l m ts us tells h g f = as_kept same block l m ts us tells h g f
-sent_by inline.Tag same block l m ts us tells h g f = as_kept same block l m ts us tells h g f
-sent_by inline.Break same block l m ts us tells h g f = as_kept same block l m ts us tells h g f
-sent_by inline.AsItStood same block l m ts us tells h g f = as_kept same block l m ts us tells h g f
+    → FoundBy w (kept_nodes block) l ts → IsSentBy w (page_of same block) m us
+sent_by inline.Nothing same block l m ts us tells h f = tt
+sent_by inline.Characters same block l m ts us tells h f = tt
+sent_by inline.Bold same block l m ts us tells h f = f
+sent_by inline.Italic same block l m ts us tells h f = f
+sent_by inline.Shown same block l m ts us tells h f = as_kept same block l m ts us tells h f.1 f.0
+sent_by inline.PageLink same block l m ts us tells h f = as_kept same block l m ts us tells h f.1 f.0
+sent_by inline.ExternalLink same block l m ts us tells h f = as_kept same block l m ts us tells h f.1 f.0
+sent_by inline.Tag same block l m ts us tells h f = as_kept same block l m ts us tells h f.1 f.0
+sent_by inline.Break same block l m ts us tells h f = as_kept same block l m ts us tells h f.1 f.0
+sent_by inline.AsItStood same block l m ts us tells h f = as_kept same block l m ts us tells h f.1 f.0
 
 pub pieces_sent : (pages : Pages) (same : Tree → Tree → Bool) (block : Tree) (ps : Pieces) → TellsSame same → AreFound (kept_nodes block) (page_pieces ps)
     → AreChildrenBeside pages (page_pieces ps) → PiecesStay ps → HaveNoStyle ps → AreSent (page_of same block) (sent_pieces ps)
@@ -91,7 +92,7 @@ pieces_sent pages same block (written x text ps) tells f g h n =
     text_sent (page_of same block) x text (sent_pieces ps) (pieces_sent pages same block ps tells f g h n)
 pieces_sent pages same block (kept (tree l ts) (tree m us) ps) tells f g h n = (
   subst (λ (k : Kind). IsSentBy (edit_shape k).inline (page_of same block) m us) (sym h.0.0.kind)
-      (sent_by (edit_shape l.kind).inline same block l m ts us tells h.0 g.0.free f.0),
+      (sent_by (edit_shape l.kind).inline same block l m ts us tells h.0 f.0),
   pieces_sent pages same block ps tells f.1 g.1 h.1 n,
 )
 pieces_sent pages same block (around l m is ps) tells f g h n = absurd n
@@ -107,7 +108,7 @@ record IsSignOf (block : Tree) (l : Label) (ts : Trees) (signs : List ContentSig
   is : signs ≡ kept_thing kept ∷ []
 
 unless_sign : (same : Tree → Tree → Bool) (block : Tree) (l m : Label) (ts us : Trees) (new : List ContentSign) → TellsSame same
-    → StandsAsIs (tree l ts) (tree m us) → IsGroupOrFree (tree l ts) → IsFoundAs (kept_nodes block) l ts
+    → StandsAsIs (tree l ts) (tree m us) → HasFoundGroups (kept_nodes block) (tree l ts) → IsFoundAs (kept_nodes block) l ts
     → IsSignOf block l ts (unless_kept (page_of same block) (kept_with m.id (kept_nodes block)) (tree m us) new)
 unless_sign same block l m ts us new tells h g f =
     let u : IsUnchanged (page_of same block) m us = as_kept same block l m ts us tells h g f in
@@ -130,31 +131,31 @@ stood_sign block l m ts e f = record {
 }
 
 sign_by : (w : InlineForm) (same : Tree → Tree → Bool) (block : Tree) (pl : Place) (l m : Label) (ts us : Trees) (inside : List ContentSign) → TellsSame same
-    → StandsAsIs (tree l ts) (tree m us) → IsGroupOrFree (tree l ts) → IsNodeForm w → FoundBy w (kept_nodes block) l ts
+    → StandsAsIs (tree l ts) (tree m us) → IsNodeForm w → FoundBy w (kept_nodes block) l ts
     → IsSignOf block l ts (signs_by w (page_of same block) pl (kept_with m.id (kept_nodes block)) m us inside)
-sign_by inline.Nothing same block pl l m ts us inside tells h g n f = absurd n
-sign_by inline.Characters same block pl l m ts us inside tells h g n f = absurd n
-sign_by inline.Bold same block pl l m ts us inside tells h g n f = absurd f
-sign_by inline.Italic same block pl l m ts us inside tells h g n f = absurd f
-sign_by inline.Shown same block pl l m ts us inside tells h g n f =
-    unless_sign same block l m ts us (anew_by inline.Shown (page_of same block) pl (kept_with m.id (kept_nodes block)) m us inside) tells h g f
-sign_by inline.PageLink same block pl l m ts us inside tells h g n f =
-    unless_sign same block l m ts us (anew_by inline.PageLink (page_of same block) pl (kept_with m.id (kept_nodes block)) m us inside) tells h g f
-sign_by inline.ExternalLink same block pl l m ts us inside tells h g n f =
-    unless_sign same block l m ts us (anew_by inline.ExternalLink (page_of same block) pl (kept_with m.id (kept_nodes block)) m us inside) tells h g f
-sign_by inline.Tag same block pl l m ts us inside tells h g n f =
-    unless_sign same block l m ts us (anew_by inline.Tag (page_of same block) pl (kept_with m.id (kept_nodes block)) m us inside) tells h g f
-sign_by inline.Break same block pl l m ts us inside tells h g n f =
-    unless_sign same block l m ts us (anew_by inline.Break (page_of same block) pl (kept_with m.id (kept_nodes block)) m us inside) tells h g f
-sign_by inline.AsItStood same block pl l m ts us inside tells h g n f = stood_sign block l m ts h.0.id f
+sign_by inline.Nothing same block pl l m ts us inside tells h n f = absurd n
+sign_by inline.Characters same block pl l m ts us inside tells h n f = absurd n
+sign_by inline.Bold same block pl l m ts us inside tells h n f = absurd f
+sign_by inline.Italic same block pl l m ts us inside tells h n f = absurd f
+sign_by inline.Shown same block pl l m ts us inside tells h n f =
+    unless_sign same block l m ts us (anew_by inline.Shown (page_of same block) pl (kept_with m.id (kept_nodes block)) m us inside) tells h f.1 f.0
+sign_by inline.PageLink same block pl l m ts us inside tells h n f =
+    unless_sign same block l m ts us (anew_by inline.PageLink (page_of same block) pl (kept_with m.id (kept_nodes block)) m us inside) tells h f.1 f.0
+sign_by inline.ExternalLink same block pl l m ts us inside tells h n f =
+    unless_sign same block l m ts us (anew_by inline.ExternalLink (page_of same block) pl (kept_with m.id (kept_nodes block)) m us inside) tells h f.1 f.0
+sign_by inline.Tag same block pl l m ts us inside tells h n f =
+    unless_sign same block l m ts us (anew_by inline.Tag (page_of same block) pl (kept_with m.id (kept_nodes block)) m us inside) tells h f.1 f.0
+sign_by inline.Break same block pl l m ts us inside tells h n f =
+    unless_sign same block l m ts us (anew_by inline.Break (page_of same block) pl (kept_with m.id (kept_nodes block)) m us inside) tells h f.1 f.0
+sign_by inline.AsItStood same block pl l m ts us inside tells h n f = stood_sign block l m ts h.0.id f.0
 
 node_sign : (same : Tree → Tree → Bool) (block : Tree) (pl : Place) (l m : Label) (ts us : Trees) → TellsSame same → StandsAsIs (tree l ts) (tree m us)
-    → IsGroupOrFree (tree l ts) → IsNodeForm (edit_shape l.kind).inline → FoundBy (edit_shape l.kind).inline (kept_nodes block) l ts
+    → IsNodeForm (edit_shape l.kind).inline → FoundBy (edit_shape l.kind).inline (kept_nodes block) l ts
     → IsSignOf block l ts (signs_of (page_of same block) pl (tree m us))
-node_sign same block pl l m ts us tells h g n f =
+node_sign same block pl l m ts us tells h n f =
     let inside : List ContentSign = signs_of_all (page_of same block) pl us in
     subst (λ (k : Kind). IsSignOf block l ts (signs_by (edit_shape k).inline (page_of same block) pl (kept_with m.id (kept_nodes block)) m us inside))
-    (sym h.0.kind) (sign_by (edit_shape l.kind).inline same block pl l m ts us inside tells h g n f)
+    (sym h.0.kind) (sign_by (edit_shape l.kind).inline same block pl l m ts us inside tells h n f)
 
 -- ---- its nodes are those of the block, but for some that call nothing
 
@@ -179,12 +180,12 @@ gone_by inline.Nothing pages ks l ts inside ns ds e f h = h
 gone_by inline.Characters pages ks l ts inside ns ds e f h = h
 gone_by inline.Bold pages ks l ts inside ns ds e f h = absurd f
 gone_by inline.Italic pages ks l ts inside ns ds e f h = absurd f
-gone_by inline.Shown pages ks l ts inside ns ds e f h = node_gone pages ks l ts ns ds (e tt) f h
-gone_by inline.PageLink pages ks l ts inside ns ds e f h = node_gone pages ks l ts ns ds (e tt) f h
-gone_by inline.ExternalLink pages ks l ts inside ns ds e f h = node_gone pages ks l ts ns ds (e tt) f h
-gone_by inline.Tag pages ks l ts inside ns ds e f h = node_gone pages ks l ts ns ds (e tt) f h
-gone_by inline.Break pages ks l ts inside ns ds e f h = node_gone pages ks l ts ns ds (e tt) f h
-gone_by inline.AsItStood pages ks l ts inside ns ds e f h = node_gone pages ks l ts ns ds (e tt) f h
+gone_by inline.Shown pages ks l ts inside ns ds e f h = node_gone pages ks l ts ns ds (e tt) f.0 h
+gone_by inline.PageLink pages ks l ts inside ns ds e f h = node_gone pages ks l ts ns ds (e tt) f.0 h
+gone_by inline.ExternalLink pages ks l ts inside ns ds e f h = node_gone pages ks l ts ns ds (e tt) f.0 h
+gone_by inline.Tag pages ks l ts inside ns ds e f h = node_gone pages ks l ts ns ds (e tt) f.0 h
+gone_by inline.Break pages ks l ts inside ns ds e f h = node_gone pages ks l ts ns ds (e tt) f.0 h
+gone_by inline.AsItStood pages ks l ts inside ns ds e f h = node_gone pages ks l ts ns ds (e tt) f.0 h
 
 own_number : (w : InlineForm) (ks : List Kept) (l : Label) (ts : Trees) (inside : List ℕ) → IsNodeForm w → FoundBy w ks l ts
     → numbers_by w l.id inside ≡ l.id ∷ []
@@ -230,7 +231,7 @@ pieces_things pages same block pl (written x text ps) tells f g h a n c =
     (pieces_things pages same block pl ps tells f g h a.1 n c)
 pieces_things pages same block pl (kept (tree l ts) (tree m us) ps) tells f g h a n c =
     let r : IsSignOf block l ts (signs_of (page_of same block) pl (tree m us)) =
-    node_sign same block pl l m ts us tells h.0 g.0.free a.0 f.0 in
+    node_sign same block pl l m ts us tells h.0 a.0 f.0 in
     node_stays pages block l ts (numbers_by (edit_shape l.kind).inline l.id (all_numbers ts)) (all_numbers (page_pieces ps))
     (signs_of (page_of same block) pl (tree m us)) (sent_signs same block pl ps) r
     (own_number (edit_shape l.kind).inline (kept_nodes block) l ts (all_numbers ts) a.0 f.0)
@@ -255,7 +256,7 @@ pieces_characters pages same block pl (written x text ps) tells f g h a n =
     text_are same block pl x text (sent_pieces ps) a.0 (pieces_characters pages same block pl ps tells f g h a.1 n)
 pieces_characters pages same block pl (kept (tree l ts) (tree m us) ps) tells f g h a n =
     let r : IsSignOf block l ts (signs_of (page_of same block) pl (tree m us)) =
-    node_sign same block pl l m ts us tells h.0 g.0.free a.0 f.0 in
+    node_sign same block pl l m ts us tells h.0 a.0 f.0 in
     subst (λ (ss : List ContentSign). AreCharacters (ss ++ sent_signs same block pl ps)) (sym r.is)
     (pieces_characters pages same block pl ps tells f.1 g.1 h.1 a.1 n)
 pieces_characters pages same block pl (around l m is ps) tells f g h a n = absurd n
@@ -282,7 +283,7 @@ pieces_line pages same block pl (written x text ps) tells f g h a n o =
     text_line same block pl x text (sent_pieces ps) a.0 o.0 (pieces_line pages same block pl ps tells f g h a.1 n o.1)
 pieces_line pages same block pl (kept (tree l ts) (tree m us) ps) tells f g h a n o =
     let r : IsSignOf block l ts (signs_of (page_of same block) pl (tree m us)) =
-    node_sign same block pl l m ts us tells h.0 g.0.free a.0 f.0 in
+    node_sign same block pl l m ts us tells h.0 a.0 f.0 in
     subst (λ (ss : List ContentSign). AreOnOneLine (ss ++ sent_signs same block pl ps)) (sym r.is)
     (pieces_line pages same block pl ps tells f.1 g.1 h.1 a.1 n o)
 pieces_line pages same block pl (around l m is ps) tells f g h a n o = absurd n
@@ -320,7 +321,7 @@ pieces_show pages i same block pl (written x text ps) rest tells f g h a n =
     ∙ ap (text_before text) (pieces_show pages i same block pl ps rest tells f g h a.1 n)
 pieces_show pages i same block pl (kept (tree l ts) (tree m us) ps) rest tells f g h a n =
     let r : IsSignOf block l ts (signs_of (page_of same block) pl (tree m us)) =
-    node_sign same block pl l m ts us tells h.0 g.0.free a.0 f.0 in
+    node_sign same block pl l m ts us tells h.0 a.0 f.0 in
     let signs : List ContentSign = sent_signs same block pl ps in
     let j : ℕ = i + length (expanded_page pages (flat r.kept.node)).outer in
     let later : Plains = shown_in pages j signs rest in

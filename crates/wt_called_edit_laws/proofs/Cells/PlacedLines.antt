@@ -234,6 +234,20 @@ all_marks b tail xs runs m =
       rest = marks_behind own (joined tail) (marks_behind b.marks more (marks_behind before (b.marks ++ more) all));
     }
 
+-- so what is before a block's lines and the marks that begin them is ended
+ended_front : (b : LinedBlock) (tail : List (List Item)) (xs : List Item) → AreRuns goes_on (b.before ++ (((b.marks ++ b.first) ∷ b.more) ++ tail)) xs → OwnBreaks xs
+    → MarksEnd xs → 1 ≤ length b.first → list_all is_mark b.marks ≡ true → AreEnded (sources (joined b.before ++ b.marks))
+ended_front b tail xs runs o w some all =
+    let breaks : AllBreaks b tail = all_breaks b tail xs runs o in
+    let marks : AreMarksThere b tail = all_marks b tail xs runs w in
+    let r : Round b tail = round b tail xs some runs breaks.text in
+    marks_ended (joined b.before) b.marks breaks.front r.front_whole (marks.ended all some)
+
+pub page_ended : (page : List ℕ) (b : LinedBlock) (tail : List (List Item))
+    → AreRuns goes_on (b.before ++ (((b.marks ++ b.first) ∷ b.more) ++ tail)) (page_items page) → 1 ≤ length b.first → list_all is_mark b.marks ≡ true
+    → AreEnded (sources (joined b.before ++ b.marks))
+page_ended page b tail runs some all = ended_front b tail (page_items page) runs (page_breaks page) (page_marks page) some all
+
 -- ---- all blocks
 
 further : (last : TextBlock) (bs : List Bool) (ls : List LinedBlock) (behind : List (List Item)) (xs es : List Item) → AreRuns goes_on (all_lines ls behind) xs

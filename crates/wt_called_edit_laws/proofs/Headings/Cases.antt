@@ -1,6 +1,6 @@
 -- Worked case: the heading `== x{{t}}y ==` of the page, where `Template:T` is a word, with another letter behind its call and none before it: what is sent
 -- for it, and what it makes.
-use Rattle.std.proofs.Common.{◌≡◌, ◌<◌, inl, inr, ℕ, zero, suc, false, Some, None, List, [], ◌∷◌, arith, refl, sym, ap, ◌∙◌, subst}
+use Rattle.std.proofs.Common.{◌≡◌, ◌<◌, ℕ, zero, suc, false, Some, None, List, [], ◌∷◌, arith, refl, sym, ap, ◌∙◌, subst}
 use Rattle.wt_text_edit_laws.specs.ReadContents.{IsReadContent}
 use Rattle.wt_text_edit_laws.specs.TextBlocks.{a_heading, IsFrame}
 use Rattle.wt_text_edit_laws.specs.TypedHeadings.{Sides, spaced, heading_round}
@@ -143,10 +143,10 @@ unfolding label_at context_parts chunks segments loose_segments tiles shapes clo
 own_nodes = (
   (tt, ((λ e. cc), (tt, tt))),
   (
-    record { inline = refl; free = inr (refl, tt); shows = λ n. absurd n },
+    record { inline = refl; shows = λ n. absurd n },
     (
-      record { inline = refl; free = inl refl; shows = λ n. group_shows },
-      (record { inline = refl; free = inr (refl, tt); shows = λ n. absurd n }, tt),
+      record { inline = refl; shows = λ n. group_shows },
+      (record { inline = refl; shows = λ n. absurd n }, tt),
     ),
   ),
 )

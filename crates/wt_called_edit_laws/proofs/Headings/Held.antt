@@ -14,11 +14,11 @@ use Rattle.wt_part_laws.specs.HeldCalls.{block_in, HoldsItsCalls}
 use Rattle.wt_text_edit_laws.specs.TextBlocks.{a_heading}
 use Rattle.wt_text_edit_laws.specs.TypedHeadings.{Sides, AreSides, heading_round}
 use Rattle.wt_beside_laws.specs.Called.{items_with, owns_in, parts_with, called_shown, IsCalledHeading, IsCalledInHeading}
-use Rattle.wt_beside_laws.proofs.Groups.CalledBlocks.{parts_own}
+use Rattle.wt_beside_laws.proofs.Groups.CalledBlocks.{parts_alike}
 use Rattle.wt_beside_laws.proofs.Groups.CalledHeadings.{heading_holds, heading_block}
 use Rattle.wt_beside_laws.proofs.Groups.CalledShown.{parts_texts, parts_show}
 use Rattle.wt_beside_laws.proofs.Groups.Folders.{heading_in}
-use Rattle.wt_beside_laws.proofs.Groups.GivenNodes.{children_in_page}
+use Rattle.wt_beside_laws.proofs.Groups.GivenNodes.{shown_in_page}
 use Rattle.wt_beside_laws.proofs.Made.OldBlocks.{face_of}
 use Rattle.wt_called_edit_laws.specs.CalledContents.{tree_round}
 use Rattle.wt_called_edit_laws.specs.WrittenAnew.{IsWrittenInHeading, HoldsAnywhere}
@@ -48,4 +48,4 @@ head_shows pages calls i s signs w rest a h =
     ap (λ (xs : List Item). plain_before (cut_texts (block_in calls (heading_round w xs))) rest) (head_items pages i s signs h)
     ∙ ap (λ (t : Tree). plain_before (cut_texts t) rest) (heading_block calls s signs owns w c a)
     ∙ ap (λ (qs : Plains). along (element (face_of (a_heading w)) qs) rest)
-    (children_in_page calls ps ended (parts_own s [] signs owns c.own) (parts_texts s [] signs owns c.given c.flat) ∙ parts_show s [] signs owns ended c.given c.flat)
+    (shown_in_page calls ps ended (parts_alike calls s [] signs owns c.own) (parts_texts s [] signs owns c.given c.flat) ∙ parts_show s [] signs owns ended c.given c.flat)

@@ -101,10 +101,10 @@ here = record {
   seen = (seen, tt);
   read = read;
   line = λ i. subst (AreHeadingItems two) (sym (items_are i)) (is_line i);
-  texts = λ i.
+  texts = λ calls i a.
       let xs : List Item = part_items a_word i source in
       let p : AreGivenParts xs = parts_here i in
-      simple_parts xs (content_parts_of (a_heading two) xs) p.texts;
+      simple_parts calls xs (content_parts_of (a_heading two) xs) p.texts;
   groups = λ i. let p = parts_here i in p.groups;
   shut = λ i. let p = parts_here i in p.shut;
 }

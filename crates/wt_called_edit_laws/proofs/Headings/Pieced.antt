@@ -1,5 +1,6 @@
 -- A heading of the page in pieces, whoever wrote it: it is a content in a folder and holds its calls.
 use Rattle.std.proofs.Common.{ℕ, false, List, [], refl, sym, ap, ◌∙◌, subst}
+use Rattle.wt_span.specs.Items.{Item}
 use Rattle.wt_tree.specs.declared.kind.Kind.TheVariants as kind
 use Rattle.wt_tree.specs.declared.edit_shape.Place.TheVariants as place
 use Rattle.wt_guards.specs.Content.{Thing}
@@ -28,6 +29,7 @@ use Rattle.wt_called_edit_laws.proofs.Headings.Held.{head_holds}
 use Rattle.wt_called_edit_laws.proofs.Headings.Letters.{a_head, b_head}
 use Rattle.wt_called_edit_laws.proofs.Whole.Contents.{moved_shut}
 use Rattle.wt_called_edit_laws.proofs.Whole.PartsIn.{parts_pieces}
+use Rattle.wt_called_edit_laws.proofs.Whole.SourcesAt.{sources_somewhere}
 use Rattle.wt_called_edit_laws.proofs.Whole.Pieced.{pieces_shut}
 use Rattle.wt_called_edit_laws.proofs.Written.InPieces.{pieces_items, pieces_written}
 use Rattle.wt_called_edit_laws.proofs.Written.Letters.{begun, rest_of, spelled_a, spelled_b, stay_spread}
@@ -82,8 +84,10 @@ pieced_heading_holds pages s q h =
     let part = all.part in
     record {
       holds = λ i.
-          given_hold (plain (kind.Heading s.level)) (page_chars (opening s)) (line_parts (part_items pages i q)) (closing_items s)
-          (round_given (line_parts (part_items pages i q)) s (parts_pieces 2 (part_items pages i q) (line_parts (part_items pages i q)) (h.texts i)) f.sides);
+          let xs : List Item = part_items pages i q in
+          let there = sources_somewhere i (expanded_page pages (source_of (a_heading s) q)).outer in
+          given_hold (plain (kind.Heading s.level)) (page_chars (opening s)) (line_parts xs) (closing_items s)
+          (round_given (line_parts xs) s (parts_pieces 2 there.0 xs (line_parts xs) (h.texts there.0 i there.1)) f.sides);
       letters = page_letters pages s q h;
       texts = part.texts;
       whole = record {

@@ -44,7 +44,8 @@ use Rattle.wt_called_edit_laws.proofs.Headings.Framed.{framed_written}
 use Rattle.wt_called_edit_laws.proofs.Whole.Blocks.{nodes_are}
 use Rattle.wt_called_edit_laws.proofs.Whole.Contents.{has_call}
 use Rattle.wt_called_edit_laws.proofs.Whole.PartsIn.{simple_parts}
-use Rattle.wt_called_edit_laws.proofs.Whole.TextAndCalls.{a_group, nodes_from, nodes_own, nodes_show, IsCallThing, AreCallThings, ThingsOf, nodes_things, call_things, some_things, all_meet_none, sources_before, same_nodes, block_finds}
+use Rattle.wt_called_edit_laws.proofs.Whole.TextAndCalls.{a_group, nodes_from, nodes_own, nodes_show, IsCallThing, AreCallThings, ThingsOf, nodes_things, call_things, some_things, all_meet_none, same_nodes, block_finds}
+use Rattle.wt_called_edit_laws.proofs.Whole.SourcesAt.{sources_before}
 use Rattle.wt_called_edit_laws.proofs.Written.InPieces.{pieces_items, pieces_written}
 use Rattle.wt_called_edit_laws.proofs.Written.NewContents.{calls_of, work_of}
 
@@ -80,8 +81,8 @@ heading_pieced pages s q h =
       seen = things_seen pages h.pieces some.nodes some.are.0 some.are.1 h.seen;
       read = h.read;
       line = h.line;
-      texts = λ i.
-          simple_parts (part_items pages i q) (content_parts_of (a_heading s) (part_items pages i q)) (h.texts i);
+      texts = λ calls i a.
+          simple_parts calls (part_items pages i q) (content_parts_of (a_heading s) (part_items pages i q)) (h.texts i);
       groups = h.groups;
       shut = h.shut;
     }

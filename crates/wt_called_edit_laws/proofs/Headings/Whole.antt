@@ -12,16 +12,15 @@ use Rattle.wt_part_laws.specs.Expanded.{part_items}
 use Rattle.wt_text_edit_laws.specs.TextBlocks.{a_heading, source_of, IsFrame}
 use Rattle.wt_text_edit_laws.specs.TypedHeadings.{Sides}
 use Rattle.wt_beside_laws.specs.Called.{items_with, owns_in, parts_with, IsCalledInHeading}
-use Rattle.wt_beside_laws.proofs.Groups.CalledBlocks.{parts_own}
 use Rattle.wt_beside_laws.proofs.Groups.CalledHeadings.{heading_parts}
 use Rattle.wt_beside_laws.proofs.Groups.Folders.{heading_in}
 use Rattle.wt_called_edit_laws.specs.WholeContents.{AreGroups, ArePartsIn, AreShutParts, HoldsGroups, IsWholeIn}
-use Rattle.wt_called_edit_laws.proofs.Whole.PartsIn.{simple_parts}
+use Rattle.wt_called_edit_laws.proofs.Whole.SourcesAt.{sources_before}
 use Rattle.wt_called_edit_laws.specs.Written.{written_calls}
 use Rattle.wt_called_edit_laws.specs.WrittenAnew.{IsWrittenInHeading}
 use Rattle.wt_called_edit_laws.proofs.Headings.Held.{head_items}
 use Rattle.wt_called_edit_laws.proofs.Headings.NewContents.{head_written}
-use Rattle.wt_called_edit_laws.proofs.Whole.Contents.{parts_shut, groups_from, written_shut, moved_shut}
+use Rattle.wt_called_edit_laws.proofs.Whole.Contents.{parts_shut, groups_from, signs_parts, written_shut, moved_shut}
 
 head_groups : (pages : Pages) (s : Setting) (signs : List ContentSign) (w : Sides) → IsFrame w → IsWrittenInHeading pages s signs
     → HoldsGroups pages (a_heading w) (spelled s signs)
@@ -32,10 +31,11 @@ head_groups pages s signs w f h =
     let given : (i : ℕ) → line_parts (part_items pages i (spelled s signs)) ≡ parts_with s [] signs (owns_in pages i signs) =
     λ i. ap line_parts (items i) ∙ heading_parts s signs (owns_in pages i signs) (heading_in pages i s signs c) in
     record {
-      parts = λ i.
-          let there = heading_in pages i s signs c in
-          subst (ArePartsIn (part_items pages i (spelled s signs))) (sym (given i))
-          (simple_parts (part_items pages i (spelled s signs)) (parts_with s [] signs (owns_in pages i signs)) (parts_own s [] signs (owns_in pages i signs) there.own));
+      parts = λ calls i a.
+          let xs : List Item = part_items pages i (spelled s signs) in
+          subst (ArePartsIn calls xs) (sym (given i))
+          (signs_parts pages calls xs i s [] signs c.given h.shut
+          (sources_before calls i (written_calls pages signs) (expanded_page pages (source_of (a_heading w) (spelled s signs))).outer all.calls_are a));
       groups = λ i.
           subst (λ (ps : List Part). AreGroups (part_items pages i (spelled s signs)) (call_pieces (children ps))) (sym (given i))
           (subst (λ (xs : List Item). AreGroups xs (call_pieces (children (parts_with s [] signs (owns_in pages i signs))))) (sym (items i))

@@ -38,7 +38,7 @@ no_words = refl
 
 -- ---- a block's end
 
-line_met : (q rest : List ℕ) (xs : List Item) → EndsHere rest → page_items (q ++ rest) ≡ page_items q ++ xs → AreMet (words Page q) (words Page rest) (words Page (q ++ rest))
+pub line_met : (q rest : List ℕ) (xs : List Item) → EndsHere rest → page_items (q ++ rest) ≡ page_items q ++ xs → AreMet (words Page q) (words Page rest) (words Page (q ++ rest))
 line_met q [] xs e is = inl (ap (words Page) (append-nil q) ∙ sym (ap (λ (ws : List Word). words Page q ++ ws) no_words ∙ append-nil (words Page q)))
 line_met q (b ∷ r) xs e is =
     let P : ℕ → Type 0 = λ (c : ℕ). page_items (q ++ c ∷ r) ≡ page_items q ++ xs → AreMet (words Page q) (words Page (c ∷ r)) (words Page (q ++ c ∷ r)) in

@@ -202,10 +202,10 @@ unfolding label_at context_parts chunks segments loose_segments tiles shapes clo
 are_nodes =
     let a : IsUtf8 (codes "x") = (codes "x", (refl, refl)) in
     let b : IsUtf8 (codes "y") = (codes "y", (refl, refl)) in (
-      (refl, (((λ e. absurd (cc)), tt), tt), ((a, record { inline = refl; free = inr (refl, tt); shows = λ n. absurd n }), tt)),
+      (refl, (((λ e. absurd (cc)), tt), tt), ((a, record { inline = refl; shows = λ n. absurd n }), tt)),
       (
-        record { inline = refl; free = inl refl; shows = λ n. group_shows },
-        ((b, record { inline = refl; free = inr (refl, tt); shows = λ n. absurd n }), tt),
+        record { inline = refl; shows = λ n. group_shows },
+        ((b, record { inline = refl; shows = λ n. absurd n }), tt),
       ),
     )
 

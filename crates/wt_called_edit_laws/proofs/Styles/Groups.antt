@@ -21,6 +21,7 @@ use Rattle.wt_part_laws.specs.CallPieces.{ArePieceNodes, IsPieceNode, call_piece
 use Rattle.wt_part_laws.specs.Expanded.{calls_in, part_items}
 use Rattle.wt_beside_laws.proofs.Groups.CalledBlocks.{guard_parts, letter_parts, some_of_page}
 use Rattle.wt_beside_laws.proofs.Groups.Folders.{folder_case}
+use Rattle.wt_beside_laws.proofs.Groups.RoundNodes.{deep_round}
 use Rattle.wt_beside_laws.proofs.StyledGroups.Blocks.{style_round, styled_each}
 use Rattle.wt_beside_laws.specs.Called.{GivesGroup, items_with, owns_in}
 use Rattle.wt_beside_laws.specs.Content.{guard_items, letter_items}
@@ -32,9 +33,9 @@ use Rattle.wt_beside_laws.specs.StyledCalls.{AreOwnAt, owns_left, owns_past, sty
 use Rattle.wt_beside_laws.specs.StyledNodes.{IsPut}
 use Rattle.wt_called_edit_laws.proofs.Styles.Shown.{calls_behind, past_as}
 use Rattle.wt_called_edit_laws.proofs.Styles.Things.{AreStyledThings, IsStyledThing}
-use Rattle.wt_called_edit_laws.proofs.Styles.Written.{all_given, call_or_not, each_behind, own_some}
+use Rattle.wt_called_edit_laws.proofs.Styles.Written.{all_given, call_or_not, each_behind, own_some, put_some}
 use Rattle.wt_called_edit_laws.proofs.Whole.Contents.{AreLastOf, all_before, guard_none, has_call, last_thing, letter_none, no_groups, page_none, past_both, thing_none, three_none}
-use Rattle.wt_called_edit_laws.proofs.Whole.GroupsAlone.{groups_call, groups_node, groups_page, past_first}
+use Rattle.wt_called_edit_laws.proofs.Whole.GroupsAlone.{groups_call, groups_node, groups_page, groups_round, past_first}
 use Rattle.wt_called_edit_laws.proofs.Whole.OfCall.{of_page, of_same}
 use Rattle.wt_called_edit_laws.specs.WholeContents.{AreGroups, of_call}
 
@@ -52,7 +53,10 @@ call_gives pages x (inl k) e =
     let own = k.0 in
     elim (folder_case x.role pages x own.folder) [
       | inl n ↦ let no : true ≡ false = sym e ∙ n.1 in absurd (cc)
-      | inr g ↦ (g.0, g.2)
+      | inr c ↦ elim c [
+        | inl n ↦ let no : true ≡ false = sym e ∙ n.1 in absurd (cc)
+        | inr g ↦ (g.0, g.2)
+      ]
     ]
 
 -- more calls come before what is behind a style
@@ -109,15 +113,9 @@ last_behind pages all i s before (styled kind opening closing inside t) after f 
 
 styled_thing_none : (pages : Pages) (i j : ℕ) (x : Thing) → IsStyledThing pages x → IsFlat x.role → j < i
     → of_call j (held_parts (line_parts (part_items pages i x.source))) ≡ []
-styled_thing_none pages i j x h f l = elim (call_or_not (is_call x.role)) [
-  | inl e ↦ by_call h e
-  | inr e ↦
-      page_none j (line_parts (part_items pages i x.source)) (some_of_page (line_parts (part_items pages i x.source)) (own_some pages i x h f e))
-]
-  where
-    by_call : IsStyledThing pages x → is_call x.role ≡ true → of_call j (held_parts (line_parts (part_items pages i x.source))) ≡ []
-    by_call (inl k) e = let own = k.0 in thing_none pages i j x own.folder l
-    by_call (inr p) e = absurd (put_call x p e)
+styled_thing_none pages i j x (inl k) f l = let own = k.0 in thing_none pages i j x own.folder l
+styled_thing_none pages i j x (inr p) f l =
+    page_none j (line_parts (part_items pages i x.source)) (some_of_page (line_parts (part_items pages i x.source)) (put_some pages i x p f))
 
 marks_page : (kind : Bool) → list_all is_page (marks kind) ≡ true
 marks_page true = refl
@@ -212,13 +210,16 @@ groups_styled pages all i s within bold italic before (sign (thing x) t) after h
     groups_styled pages all next s within bold italic (thing x ∷ before) t after h.1 k.1 o.1 (last_thing pages all i x u rest f) in
     groups_page all (parts Text (guard_items u)) (line_parts own ++ more) (guard_parts u)
     (elim (call_or_not (is_call x.role)) [
-      | inr e ↦ groups_page all (line_parts own) more (some_of_page (line_parts own) (own_some pages i x h.0 k.0 e)) later
+      | inr e ↦ elim (own_some pages i x h.0 k.0 e) [
+        | inl p ↦ groups_page all (line_parts own) more (some_of_page (line_parts own) p) later
+        | inr r ↦ groups_round all own more r later
+      ]
       | inl e ↦
           let group = call_gives pages x h.0 e in
           let some : 0 < calls_in pages x.source = has_call pages i group.0 x.source group.1 in
           let less : i < next = omega (arith, some) in
           let own_pieces : ArePieceNodes more =
-          styled_each IsPieceNode (λ qs g. as_pieces qs g) s within bold italic (thing x ∷ before) t after (owns_in pages next signs)
+          styled_each IsPieceNode (λ qs g. as_pieces qs g) (λ u r z. inr (deep_round u r)) s within bold italic (thing x ∷ before) t after (owns_in pages next signs)
           (all_given pages next signs h.1) k.1 o.1 (λ kind qs g a. inr (style_round kind qs)) in
           group_there pages all i x group.0 u rest more group.1 f (all_before pages next i s (thing x ∷ before) signs less) own_pieces
           (later_styled pages next i s bold italic (thing x ∷ before) t after h.1 k.1 less) later

@@ -219,11 +219,11 @@ are_nodes =
         refl,
         (((λ e. absurd (cc)), tt), (((λ e. gives_plain), (((λ e. absurd (cc)), tt), tt)), tt)),
         (
-          (a, record { inline = refl; free = inr (refl, tt); shows = λ n. absurd n }),
-          (record { inline = refl; free = inl refl; shows = λ n. group_shows }, tt),
+          (a, record { inline = refl; shows = λ n. absurd n }),
+          (record { inline = refl; shows = λ n. group_shows }, tt),
         ),
       ),
-      ((b, record { inline = refl; free = inr (refl, tt); shows = λ n. absurd n }), tt),
+      ((b, record { inline = refl; shows = λ n. absurd n }), tt),
     )
 
 pub in_class : IsBesideStyles a_word a_paragraph source block

@@ -8,6 +8,7 @@ use lib.Utf8.{encode}
 use Rattle.wt_span.specs.Comments.{comment_len, comment_line_len}
 use Rattle.wt_span.specs.Entities.{entity_at, named_entity, decimal_entity, hex_entity, entity_names}
 use Rattle.wt_span.specs.Tags.{raw_len, opening_tag, tag_after, closing_tag, with_inside, is_extension, include_at}
+use Rattle.wt_span.specs.Origins.{OuterCall}
 use Rattle.wt_span.specs.Items.{Item}
 use Rattle.wt_span.specs.Lexemes.{sign_word, form_at, closed, words}
 use Rattle.wt_span.specs.Braces.{rewritten, reduced, parts_of, calls, nesting}
@@ -101,7 +102,7 @@ is_text i = record {
 
 -- the word is in bold, as characters
 record AreGivenParts (i : ℕ) (xs : List Item) : Type 0 where
-  texts : ArePartsIn (given i) (content_parts_of a_paragraph xs)
+  texts : (calls : List OuterCall) → ArePartsIn calls (given i) (content_parts_of a_paragraph xs)
   groups : AreGroups (given i) (call_pieces (children (content_parts_of a_paragraph xs)))
   shut : AreShutParts (content_parts_of a_paragraph xs)
   some : HasOwn (content_parts_of a_paragraph xs)
@@ -110,7 +111,7 @@ given_parts : (i : ℕ) → AreGivenParts i (given i)
 unfolding context_parts chunks segments loose_segments tiles shapes closes tile_at link_or_url link_at ext_link_at bare_url_at scheme_len tag_tile tag_at switch_at
     with_styles style_tree_of toggles_of toggle_at opens_tag closes_tag place_of since next bold_ends_later effect_on is_bold_outside_at turn_at children label_at
 given_parts i = record {
-  texts = (
+  texts = λ calls. (
     inr (
       true,
       loose Text None 120 ∷ loose Text (Some i) 98 ∷ [],
@@ -139,9 +140,9 @@ here = record {
   among = among;
   read = is_read;
   lines = λ i. subst AreTextItems (sym (items_are i)) (is_text i);
-  texts = λ i.
+  texts = λ calls i a.
       let p = parts_here i in
-      subst (λ (xs : List Item). ArePartsIn xs (content_parts_of a_paragraph (part_items a_word i source))) (sym (items_are i)) p.texts;
+      subst (λ (xs : List Item). ArePartsIn calls xs (content_parts_of a_paragraph (part_items a_word i source))) (sym (items_are i)) (p.texts calls);
   groups = λ i.
       let p = parts_here i in
       subst (λ (xs : List Item). AreGroups xs (call_pieces (children (content_parts_of a_paragraph (part_items a_word i source))))) (sym (items_are i)) p.groups;

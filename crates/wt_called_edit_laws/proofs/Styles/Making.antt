@@ -45,7 +45,7 @@ use Rattle.wt_beside_laws.specs.Lines.{AreCharacters}
 use Rattle.wt_beside_laws.specs.Styled.{AreNested, StyledContent, signs_in}
 use Rattle.wt_beside_laws.specs.StyledBlocks.{all_numbers, things_with}
 use Rattle.wt_called_edit_laws.proofs.Beside.Counts.{block_bare, settled_counts}
-use Rattle.wt_called_edit_laws.proofs.Beside.Making.{IsSettledIn, block_face, block_kind, no_leaf, node_by, one_line_so, setting, signs, source_so, spelled_by}
+use Rattle.wt_called_edit_laws.proofs.Beside.Making.{IsSettledIn, block_face, block_groups, block_kind, no_leaf, node_by, one_line_so, setting, signs, source_so, spelled_by}
 use Rattle.wt_called_edit_laws.proofs.Headings.FromPage.{seen_stay}
 use Rattle.wt_called_edit_laws.proofs.Styles.Faults.{characters_sent, no_fault}
 use Rattle.wt_called_edit_laws.proofs.Styles.Found.{AreFound, nodes_found}
@@ -63,6 +63,7 @@ use Rattle.wt_called_edit_laws.specs.CalledEdits.{MakesContentIn, page_things}
 use Rattle.wt_called_edit_laws.specs.CallingBlocks.{IsNewContentIn}
 use Rattle.wt_called_edit_laws.specs.CallingEdits.{TakesLetters}
 use Rattle.wt_called_edit_laws.specs.PageThings.{ArePageThings}
+use Rattle.wt_called_edit_laws.specs.FoundGroups.{HaveFoundGroups}
 use Rattle.wt_called_edit_laws.specs.Settled.{settled}
 use Rattle.wt_called_edit_laws.specs.StyledCallEdits.{AreNodesBeside, AreOwnThings, IsBesideStyles, IsStyledCallEdit}
 use Rattle.wt_called_edit_laws.specs.WholeContents.{IsWholeIn}
@@ -106,6 +107,7 @@ sent_well pages k q block ps i h e =
     let t : StyledContent = sent_for block ps in
     let ss : List ContentSign = signs_in t in
     let found : AreFound (kept_nodes block) (page_pieces ps) = subst (AreFound (kept_nodes block)) (sym e.old) (block_found pages k q block i h) in
+    let groups : HaveFoundGroups (kept_nodes block) (page_pieces ps) = subst (HaveFoundGroups (kept_nodes block)) (sym e.old) (block_groups pages k q block i) in
     let beside : AreNodesBeside pages (page_pieces ps) = subst (AreNodesBeside pages) (sym e.old) h.children in
     let page_nest : AllNest false false (page_pieces ps) = subst (AllNest false false) (sym e.old) h.nest in
     let utf8 : HaveUtf8 us = pieces_utf8 pages ps beside e.stay e.are in
@@ -119,7 +121,7 @@ sent_well pages k q block ps i h e =
     record {
       found = found;
       beside = beside;
-      sent = pieces_sent pages same_node block ps tells_same found beside e.stay;
+      sent = pieces_sent pages same_node block ps tells_same found groups beside e.stay;
       sound = pieces_sound same_node block ps found e.stay;
       utf8 = utf8;
       nested = nested;

@@ -7,11 +7,13 @@ use Rattle.wt_tree.specs.declared.edit_shape.InlineForm.{InlineForm}
 use Rattle.wt_tree.specs.declared.edit_shape.InlineForm.TheVariants as inline
 use Rattle.wt_tree.specs.declared.kind.Kind.{Kind}
 use Rattle.wt_tree.specs.declared.kind.Kind.TheVariants as kind
+use Rattle.wt_tree.specs.Tiling.{is_group}
 use Rattle.wt_original.specs.Kept.{Kept, kept_nodes, kept_with}
 use Rattle.wt_original.specs.Page.{Page, TellsSame, is_unchanged, page_of}
 use Rattle.wt_recut.specs.Recutting.{appended}
 use Rattle.wt_content.specs.Content.{if_replaced, standing, standing_of}
 use Rattle.wt_difference.specs.Insides.{is_block_part}
+use Rattle.wt_difference.specs.Unedited.{GroupOr}
 use Rattle.wt_expand.specs.Work.{Pages}
 use Rattle.wt_typed_blocks.proofs.SentGroups.{apart, of_style}
 use Rattle.wt_typed_blocks.specs.Edited.{IsStyle, Pieces, PiecesStay, around, as_new, gone, kept, new_style, no_pieces, page_pieces, sent_pieces, text_node, written}
@@ -22,7 +24,7 @@ use Rattle.wt_beside_laws.proofs.Styled.SentNests.{IsStyleForm, style_stands, te
 use Rattle.wt_beside_laws.specs.FlatPages.{AreNodesAndTexts}
 use Rattle.wt_beside_laws.specs.SentPieces.{IsNodeForm}
 use Rattle.wt_beside_laws.specs.SentStyled.{AreStyledSent, IsStyledBy, IsStyledSent}
-use Rattle.wt_called_edit_laws.specs.FoundGroups.{IsFoundAs}
+use Rattle.wt_called_edit_laws.specs.FoundGroups.{IsFoundAs, HasFoundGroups, HaveFoundGroups}
 use Rattle.wt_called_edit_laws.proofs.Beside.Sent.{as_kept}
 use Rattle.wt_called_edit_laws.proofs.Styles.Found.{AreFound, FoundBy, IsFound}
 use Rattle.wt_called_edit_laws.specs.StyledCallEdits.{AreNodesBeside, IsBesideBy, IsNodeBeside, PlainGroups}
@@ -45,37 +47,51 @@ beside_both pages ts us h = apart (λ t. IsNodeBeside pages t) (λ vs. AreNodesB
 pub found_both : (ks : List Kept) (ts us : Trees) → AreFound ks (appended ts us) → AreFound ks ts × AreFound ks us
 found_both ks ts us h = apart (λ t. IsFound ks t) (λ vs. AreFound ks vs) tt (λ t vs x. x) (λ t vs x. x) ts us h
 
+groups_both : (ks : List Kept) (ts us : Trees) → HaveFoundGroups ks (appended ts us) → HaveFoundGroups ks ts × HaveFoundGroups ks us
+groups_both ks ts us h = apart (λ t. HasFoundGroups ks t) (λ vs. HaveFoundGroups ks vs) tt (λ t vs x. x) (λ t vs x. x) ts us h
+
+-- the groups in a style
+style_groups : (ks : List Kept) (l : Label) (ts : Trees) → IsStyle l.kind → HasFoundGroups ks (tree l ts) → HaveFoundGroups ks ts
+style_groups ks l ts h d =
+    of_style (λ k. GroupOr (is_group k) (IsFoundAs ks l ts) (HaveFoundGroups ks ts) → HaveFoundGroups ks ts) l.kind h (λ x. x) (λ x. x) d
+
+form_style : (k : Kind) → IsStyleForm (edit_shape k).inline → IsStyle k
+form_style kind.Bold s = inl refl
+form_style kind.Italic s = inr refl
+form_style k s = absurd s
+
 -- ---- nodes are sent as they are
 
 one_sent : (w : InlineForm) (pages : Pages) (same : Tree → Tree → Bool) (block : Tree) (l m : Label) (ts us : Trees) (A B F : Type 0) → TellsSame same
-    → StandsAsIs (tree l ts) (tree m us) → IsBesideBy w pages l ts A → FoundBy w (kept_nodes block) l ts F → (IsStyleForm w → A → F → B)
-    → IsStyledBy w (page_of same block) m us B
-one_sent inline.Nothing pages same block l m ts us A B F tells h g f k = tt
-one_sent inline.Characters pages same block l m ts us A B F tells h g f k = tt
-one_sent inline.Bold pages same block l m ts us A B F tells h g f k = k tt g.2 f.1
-one_sent inline.Italic pages same block l m ts us A B F tells h g f k = k tt g.2 f.1
-one_sent inline.Shown pages same block l m ts us A B F tells h g f k = as_kept same block l m ts us tells h g.free f
-one_sent inline.PageLink pages same block l m ts us A B F tells h g f k = as_kept same block l m ts us tells h g.free f
-one_sent inline.ExternalLink pages same block l m ts us A B F tells h g f k = as_kept same block l m ts us tells h g.free f
-one_sent inline.Tag pages same block l m ts us A B F tells h g f k = as_kept same block l m ts us tells h g.free f
-one_sent inline.Break pages same block l m ts us A B F tells h g f k = as_kept same block l m ts us tells h g.free f
-one_sent inline.AsItStood pages same block l m ts us A B F tells h g f k = as_kept same block l m ts us tells h g.free f
+    → StandsAsIs (tree l ts) (tree m us) → IsBesideBy w pages l ts A → FoundBy w (kept_nodes block) l ts F → HasFoundGroups (kept_nodes block) (tree l ts)
+    → (IsStyleForm w → A → F → B) → IsStyledBy w (page_of same block) m us B
+one_sent inline.Nothing pages same block l m ts us A B F tells h g f d k = tt
+one_sent inline.Characters pages same block l m ts us A B F tells h g f d k = tt
+one_sent inline.Bold pages same block l m ts us A B F tells h g f d k = k tt g.2 f.1
+one_sent inline.Italic pages same block l m ts us A B F tells h g f d k = k tt g.2 f.1
+one_sent inline.Shown pages same block l m ts us A B F tells h g f d k = as_kept same block l m ts us tells h d f
+one_sent inline.PageLink pages same block l m ts us A B F tells h g f d k = as_kept same block l m ts us tells h d f
+one_sent inline.ExternalLink pages same block l m ts us A B F tells h g f d k = as_kept same block l m ts us tells h d f
+one_sent inline.Tag pages same block l m ts us A B F tells h g f d k = as_kept same block l m ts us tells h d f
+one_sent inline.Break pages same block l m ts us A B F tells h g f d k = as_kept same block l m ts us tells h d f
+one_sent inline.AsItStood pages same block l m ts us A B F tells h g f d k = as_kept same block l m ts us tells h d f
 
 mutual
   tree_sent : (pages : Pages) (same : Tree → Tree → Bool) (block t u : Tree) → TellsSame same → StandsAsIs t u → IsNodeBeside pages t → IsFound (kept_nodes block) t
-      → IsStyledSent (page_of same block) u
-  tree_sent pages same block (tree l ts) (tree m us) tells h g f =
+      → HasFoundGroups (kept_nodes block) t → IsStyledSent (page_of same block) u
+  tree_sent pages same block (tree l ts) (tree m us) tells h g f d =
       subst (λ (k : Kind). IsStyledBy (edit_shape k).inline (page_of same block) m us (AreStyledSent (page_of same block) us)) (sym h.0.kind)
       (one_sent (edit_shape l.kind).inline pages same block l m ts us (AreNodesBeside pages ts) (AreStyledSent (page_of same block) us) (AreFound (kept_nodes block) ts)
-      tells h g f (λ s a c. all_sent pages same block ts us tells (style_stands l.kind l ts us s h.1) a c))
+      tells h g f d
+      (λ s a c. all_sent pages same block ts us tells (style_stands l.kind l ts us s h.1) a c (style_groups (kept_nodes block) l ts (form_style l.kind s) d)))
 
   all_sent : (pages : Pages) (same : Tree → Tree → Bool) (block : Tree) (ts us : Trees) → TellsSame same → AllStandAsIs ts us → AreNodesBeside pages ts
-      → AreFound (kept_nodes block) ts → AreStyledSent (page_of same block) us
-  all_sent pages same block none none tells h g f = tt
-  all_sent pages same block none (more u us) tells h g f = absurd h
-  all_sent pages same block (more t ts) none tells h g f = absurd h
-  all_sent pages same block (more t ts) (more u us) tells h g f =
-      (tree_sent pages same block t u tells h.0 g.0 f.0, all_sent pages same block ts us tells h.1 g.1 f.1)
+      → AreFound (kept_nodes block) ts → HaveFoundGroups (kept_nodes block) ts → AreStyledSent (page_of same block) us
+  all_sent pages same block none none tells h g f d = tt
+  all_sent pages same block none (more u us) tells h g f d = absurd h
+  all_sent pages same block (more t ts) none tells h g f d = absurd h
+  all_sent pages same block (more t ts) (more u us) tells h g f d =
+      (tree_sent pages same block t u tells h.0 g.0 f.0 d.0, all_sent pages same block ts us tells h.1 g.1 f.1 d.1)
 
 text_sent : (p : Page) (x : Label) (text : List ℕ) (us : Trees) → AreStyledSent p us → AreStyledSent p (text_node x text us)
 text_sent p x [] us h = h
@@ -85,23 +101,27 @@ style_sent : (p : Page) (m : Label) (us : Trees) → IsStyle m.kind → AreStyle
 style_sent p m us h s = of_style (λ k. IsStyledBy (edit_shape k).inline p m us (AreStyledSent p us)) m.kind h s s
 
 pub pieces_sent : (pages : Pages) (same : Tree → Tree → Bool) (block : Tree) (ps : Pieces) → TellsSame same → AreFound (kept_nodes block) (page_pieces ps)
-    → AreNodesBeside pages (page_pieces ps) → PiecesStay ps → AreStyledSent (page_of same block) (sent_pieces ps)
-pieces_sent pages same block no_pieces tells f g h = tt
-pieces_sent pages same block (gone t ps) tells f g h = pieces_sent pages same block ps tells f.1 g.1 h
-pieces_sent pages same block (written x text ps) tells f g h =
-    text_sent (page_of same block) x text (sent_pieces ps) (pieces_sent pages same block ps tells f g h)
-pieces_sent pages same block (kept t u ps) tells f g h = (tree_sent pages same block t u tells h.0 g.0 f.0, pieces_sent pages same block ps tells f.1 g.1 h.1)
-pieces_sent pages same block (around l m is ps) tells f g h =
+    → HaveFoundGroups (kept_nodes block) (page_pieces ps) → AreNodesBeside pages (page_pieces ps) → PiecesStay ps
+    → AreStyledSent (page_of same block) (sent_pieces ps)
+pieces_sent pages same block no_pieces tells f d g h = tt
+pieces_sent pages same block (gone t ps) tells f d g h = pieces_sent pages same block ps tells f.1 d.1 g.1 h
+pieces_sent pages same block (written x text ps) tells f d g h =
+    text_sent (page_of same block) x text (sent_pieces ps) (pieces_sent pages same block ps tells f d g h)
+pieces_sent pages same block (kept t u ps) tells f d g h =
+    (tree_sent pages same block t u tells h.0 g.0 f.0 d.0, pieces_sent pages same block ps tells f.1 d.1 g.1 h.1)
+pieces_sent pages same block (around l m is ps) tells f d g h =
     let b = style_beside pages l (page_pieces is) h.0 g.0 in
-    let d = style_found (kept_nodes block) l (page_pieces is) h.0 f.0 in (
-      style_sent (page_of same block) m (sent_pieces is) (subst IsStyle (sym h.1.kind) h.0) (pieces_sent pages same block is tells d.1 b.1 h.2),
-      pieces_sent pages same block ps tells f.1 g.1 h.3,
+    let c = style_found (kept_nodes block) l (page_pieces is) h.0 f.0 in
+    let e : HaveFoundGroups (kept_nodes block) (page_pieces is) = style_groups (kept_nodes block) l (page_pieces is) h.0 d.0 in (
+      style_sent (page_of same block) m (sent_pieces is) (subst IsStyle (sym h.1.kind) h.0) (pieces_sent pages same block is tells c.1 e b.1 h.2),
+      pieces_sent pages same block ps tells f.1 d.1 g.1 h.3,
     )
-pieces_sent pages same block (new_style m is ps) tells f g h =
+pieces_sent pages same block (new_style m is ps) tells f d g h =
     let b = beside_both pages (page_pieces is) (page_pieces ps) g in
-    let d = found_both (kept_nodes block) (page_pieces is) (page_pieces ps) f in (
-      style_sent (page_of same block) (as_new m) (sent_pieces is) h.0 (pieces_sent pages same block is tells d.0 b.0 h.1),
-      pieces_sent pages same block ps tells d.1 b.1 h.2,
+    let c = found_both (kept_nodes block) (page_pieces is) (page_pieces ps) f in
+    let e = groups_both (kept_nodes block) (page_pieces is) (page_pieces ps) d in (
+      style_sent (page_of same block) (as_new m) (sent_pieces is) h.0 (pieces_sent pages same block is tells c.0 e.0 b.0 h.1),
+      pieces_sent pages same block ps tells c.1 e.1 b.1 h.2,
     )
 
 -- ---- nothing is wrong with a style
@@ -116,11 +136,6 @@ own_style same block l m ts us h e f =
     ap (λ (n : ℕ). if_replaced (standing_of p (kept_with n p.kept) (tree m us))) e
     ∙ ap (λ (o : Option Kept). if_replaced (standing_of p o (tree m us))) f.found
     ∙ not_replaced (is_unchanged p f.kept (tree m us)) (label f.kept.node).kind (subst IsStyle (sym (kind_of_kept (kept_nodes block) l ts f)) h)
-
-form_style : (k : Kind) → IsStyleForm (edit_shape k).inline → IsStyle k
-form_style kind.Bold s = inl refl
-form_style kind.Italic s = inr refl
-form_style k s = absurd s
 
 one_sound : (w : InlineForm) (same : Tree → Tree → Bool) (block : Tree) (l m : Label) (ts us : Trees) (B F : Type 0) → FoundBy w (kept_nodes block) l ts F
     → (IsStyleForm w → IsFoundAs (kept_nodes block) l ts → if_replaced (standing (page_of same block) (tree m us)) ≡ []) → (IsStyleForm w → F → B)

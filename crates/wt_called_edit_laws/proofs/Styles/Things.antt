@@ -28,6 +28,7 @@ use Rattle.wt_typed_blocks.specs.Sent.{AllStandAsIs, StandsAsIs}
 use Rattle.wt_beside_laws.proofs.Each.{Each}
 use Rattle.wt_beside_laws.proofs.Groups.Folders.{folder_case}
 use Rattle.wt_beside_laws.proofs.Groups.Meet.{EachIsSuch, EachNextMeets, IsNodeOrGroup, NextMeets, follow_as}
+use Rattle.wt_beside_laws.proofs.NodesMeet.{atom_may}
 use Rattle.wt_beside_laws.proofs.PageNodes.{follows_none}
 use Rattle.wt_beside_laws.proofs.SentNodes.{things_append}
 use Rattle.wt_beside_laws.proofs.Styled.BlockNodes.{with_append}
@@ -35,15 +36,16 @@ use Rattle.wt_beside_laws.proofs.Styled.SentAmong.{text_things}
 use Rattle.wt_beside_laws.proofs.Styled.SentNests.{IsStyleForm, style_stands}
 use Rattle.wt_beside_laws.proofs.Styled.SentStyles.{signs_joined}
 use Rattle.wt_beside_laws.proofs.Styled.SentWhole.{numbers_appended}
-use Rattle.wt_beside_laws.proofs.Styled.StyledNodes.{lead_free, mark_last, meets_put, own_mark, own_nowiki, put_node}
-use Rattle.wt_beside_laws.specs.Called.{BehindMay, IsOfFolder, LeadMay, MayFollowGroup, MayMeet, StaysAsItIs, owns_in}
+use Rattle.wt_beside_laws.proofs.Styled.StyledNodes.{before_mark, lead_free, mark_last, meets_put, own_mark, own_nowiki, put_node}
+use Rattle.wt_beside_laws.specs.Called.{BehindMay, IsOfFolder, LeadMay, MayFollowGroup, MayMeet, IsOwnNode, StaysAsItIs, StaysRound, owns_in}
 use Rattle.wt_beside_laws.specs.Cuts.{ends_word, own_glyphs}
-use Rattle.wt_beside_laws.specs.Nodes.{IsNode, is_quote_last}
+use Rattle.wt_beside_laws.specs.Given.{is_bare_url}
+use Rattle.wt_beside_laws.specs.Nodes.{IsNode, MayFollow, is_quote_last}
 use Rattle.wt_beside_laws.specs.SentStyled.{found_then, or_nowiki, sent_before, sent_by, sent_content}
 use Rattle.wt_beside_laws.specs.Stood.{things}
 use Rattle.wt_beside_laws.specs.Styled.{StyledContent, delimiter, finished, mark_source, sign, signs_before, signs_in, styled}
 use Rattle.wt_beside_laws.specs.StyledBlocks.{all_numbers, found_thing, numbers_by, numbers_of, thing_of, things_with}
-use Rattle.wt_beside_laws.specs.StyledNodes.{IsPut}
+use Rattle.wt_beside_laws.specs.StyledNodes.{EndsUnquoted, IsPut}
 use Rattle.wt_called_edit_laws.specs.FoundGroups.{IsFoundAs}
 use Rattle.wt_called_edit_laws.proofs.Styles.Found.{AreFound, FoundBy, IsFound}
 use Rattle.wt_called_edit_laws.proofs.Styles.Put.{put_items, put_source}
@@ -358,6 +360,24 @@ unquoted_at pages i g source (inl e) = inl e
 unquoted_at pages i g source (inr f) = inr (f i)
 
 -- before what is put
+none_unquoted : (r : Role) (own : List Glyph) → is_bare_url r ≡ false → EndsUnquoted r own
+none_unquoted Link own e = tt
+none_unquoted External own e = tt
+none_unquoted (Bare ends) own e = let no : true ≡ false = e in absurd (cc)
+none_unquoted Switch own e = tt
+none_unquoted Toggle own e = tt
+none_unquoted (Mark ends began) own e = tt
+none_unquoted (Group g) own e = tt
+none_unquoted Function own e = tt
+none_unquoted Node own e = tt
+
+round_may : (r : Role) (n : Thing) (left right : List Glyph) → IsNode r left → EndsUnquoted r left → IsPut n → right ≡ own_glyphs n → BehindMay r left right
+round_may r n left right h u p is = follow_as r left right h (put_follows p)
+  where
+    put_follows : IsPut n → MayFollow r left right
+    put_follows (inl m) = before_mark r left right m.0 (is ∙ own_mark n m.0 m.2) u
+    put_follows (inr w) = subst (MayFollow r left) (sym (is ∙ own_nowiki n w.1)) (inl (atom_may r))
+
 page_may : (pages : Pages) (i : ℕ) (t n : Thing) (right : List Glyph) → IsOfFolder t.role pages t → IsOwnThing pages t → IsPut n → right ≡ own_glyphs n
     → is_adjacent t n ≡ true → MayMeet t (map glyph_of (part_items pages i t.source)) n right
 page_may pages i t n right h o p is z = elim (folder_case t.role pages t h) [
@@ -369,12 +389,19 @@ page_may pages i t n right h o p is z = elim (folder_case t.role pages t h) [
         subst (λ (gs : List Glyph). BehindMay t.role (own_glyphs t) gs) (sym is) (follow_as t.role (own_glyphs t) (own_glyphs n) stays.node both.0),
         put_led n right (ends_word false (own_glyphs t)) p,
       )
-  | inr k ↦
-      let left : List Glyph = map glyph_of (part_items pages i t.source) in
-      let gives : GivesUnquoted pages (Group k.0) t.source = subst (λ (r : Role). GivesUnquoted pages r t.source) k.1 o.gives in (
-        subst (λ (r : Role). BehindMay r left right) (sym k.1) (group_follow k.0.slashes n left right (unquoted_at pages i k.0 t.source gives) p is),
-        put_led n right (ends_word false left) p,
-      )
+  | inr e ↦ elim e [
+    | inl k ↦
+        let stays : StaysRound pages t = k.0 in
+        let own : IsOwnNode t (part_items pages i t.source) = stays.node i in
+        let left : List Glyph = map glyph_of (part_items pages i t.source) in
+        (round_may t.role n left right own.node (none_unquoted t.role left k.2) p is, put_led n right (ends_word false left) p)
+    | inr k ↦
+        let left : List Glyph = map glyph_of (part_items pages i t.source) in
+        let gives : GivesUnquoted pages (Group k.0) t.source = subst (λ (r : Role). GivesUnquoted pages r t.source) k.1 o.gives in (
+          subst (λ (r : Role). BehindMay r left right) (sym k.1) (group_follow k.0.slashes n left right (unquoted_at pages i k.0 t.source gives) p is),
+          put_led n right (ends_word false left) p,
+        )
+  ]
 ]
 
 next_put : (pages : Pages) (i j : ℕ) (t : Thing) (signs : List ContentSign) → IsPut t
@@ -409,7 +436,7 @@ meet_styled pages i fs (thing t ∷ after) a h o = elim a [
 
 node_so : (pages : Pages) (i : ℕ) (t : Thing) → IsStyledThing pages t → IsNodeOrGroup t (map glyph_of (part_items pages i t.source))
 node_so pages i t (inl k) = let own = k.0 in gives_so pages i t own.folder
-node_so pages i t (inr p) = inl (subst (IsNode t.role) (sym (put_glyphs pages i t p)) (put_node t p), put_glyphs pages i t p)
+node_so pages i t (inr p) = inl (subst (IsNode t.role) (sym (put_glyphs pages i t p)) (put_node t p))
 
 pub nodes_so : (pages : Pages) (i : ℕ) (signs : List ContentSign) → AreStyledThings pages signs → EachIsSuch signs (owns_in pages i signs)
 nodes_so pages i [] h = tt

@@ -44,12 +44,12 @@ use Rattle.wt_text_edit_laws.proofs.Blocks.Untangled.{open_same}
 use Rattle.wt_text_edit_laws.specs.Contents.{content_parts_of}
 use Rattle.wt_text_edit_laws.specs.ParagraphParts.{joined_parts, para_with}
 use Rattle.wt_text_edit_laws.specs.TextBlocks.{TextBlock, a_paragraph, source_of}
-use Rattle.wt_beside_laws.proofs.Groups.CalledBlocks.{guard_own, letter_own}
+use Rattle.wt_beside_laws.proofs.Groups.CalledBlocks.{each_both, guard_own, letter_own, page_given, some_of_page}
 use Rattle.wt_beside_laws.proofs.Made.Items.{PartsHave, children_have}
 use Rattle.wt_beside_laws.proofs.PartThings.{nodes_of}
 use Rattle.wt_beside_laws.proofs.Styled.SentStyles.{nowiki_alone}
 use Rattle.wt_beside_laws.proofs.Styled.StyledNodes.{nowiki_items}
-use Rattle.wt_beside_laws.proofs.StyledGroups.Blocks.{each_both, own_texts, styled_called_holds, styled_each, styled_texts}
+use Rattle.wt_beside_laws.proofs.StyledGroups.Blocks.{styled_called_holds, styled_each, styled_texts}
 use Rattle.wt_beside_laws.proofs.StyledGroups.Paragraphs.{styled_called_parts}
 use Rattle.wt_beside_laws.proofs.StyledGroups.Shown.{styled_called_shows}
 use Rattle.wt_beside_laws.specs.Called.{AreGiven, items_with, owns_in}
@@ -64,12 +64,15 @@ use Rattle.wt_called_edit_laws.proofs.Styles.Lined.{own_calls}
 use Rattle.wt_called_edit_laws.proofs.Styles.Put.{put_items, put_outer, put_source}
 use Rattle.wt_called_edit_laws.proofs.Styles.Shown.{calls_behind, folder_shown, past_as, shown_as}
 use Rattle.wt_called_edit_laws.proofs.Styles.Things.{AreStyledThings, IsStyledThing}
-use Rattle.wt_called_edit_laws.proofs.Styles.Written.{IsStyledWritten, all_given, each_behind, flat_put, styled_gives, styled_in}
+use Rattle.wt_called_edit_laws.proofs.Styles.Written.{IsStyledWritten, all_given, each_behind, flat_put, put_some, styled_gives, styled_in}
 use Rattle.wt_called_edit_laws.proofs.Styles.Groups.{groups_styled, last_behind, last_letter, mark_thing}
 use Rattle.wt_called_edit_laws.proofs.Whole.PartsIn.{simple_within}
-use Rattle.wt_called_edit_laws.proofs.Whole.Contents.{AreLastOf, calls_both, last_thing, guard_shut, letter_shut, moved_shut, own_shut, shut_both, thing_calls}
+use Rattle.wt_called_edit_laws.proofs.Whole.SourcesAt.{sources_before, sources_split}
+use Rattle.wt_called_edit_laws.proofs.Whole.Contents.{AreLastOf, calls_both, last_thing, guard_shut, letter_shut, moved_shut, own_shut, shut_both, thing_calls, thing_parts}
+use Rattle.wt_beside_laws.specs.RoundCalls.{AreShutCalls}
 use Rattle.wt_called_edit_laws.specs.CalledContents.{tree_round}
-use Rattle.wt_called_edit_laws.specs.WholeContents.{AreGroups, ArePartsIn, AreShutCalls, AreShutParts, HoldsGroups, IsPartIn, IsWholeIn}
+use Rattle.wt_called_edit_laws.specs.PartTexts.{AreSourcesAt}
+use Rattle.wt_called_edit_laws.specs.WholeContents.{AreGroups, ArePartsIn, AreShutParts, HoldsGroups, IsPartIn, IsWholeIn}
 use Rattle.wt_called_edit_laws.specs.Written.{written_calls}
 use Rattle.wt_called_edit_laws.specs.WrittenAnew.{HoldsAnywhere}
 
@@ -247,7 +250,7 @@ styled_shut pages i s within bold italic before (styled kind opening closing ins
     let shut : AreShutParts ps = styled_shut pages j s true (kind || bold) (not kind || italic) first inside closes h.1 k.1 o.0 in
     let given : AreGiven held owns = all_given pages j held h.1 in
     let has : EachNode HasIfPage ps =
-    styled_each HasIfPage simple_has s true (kind || bold) (not kind || italic) first inside closes owns given k.1 o.0 (λ b us g a. style_has b us g a) in
+    styled_each HasIfPage simple_has (λ u r z e. let no : true ≡ false = sym e ∙ z in absurd (cc)) s true (kind || bold) (not kind || italic) first inside closes owns given k.1 o.0 (λ b us g a. style_has b us g a) in
     let texts : AreTexts ps = styled_texts s (kind || bold) (not kind || italic) first inside closes owns given k.1 in
     let out : AreOwnAt within t (owns_in pages m (signs_before t after)) =
     subst (λ (os : List (List Item)). AreOwnAt within t (owns_left os)) same o.1 in
@@ -276,34 +279,66 @@ one_deeper false true false e = refl
 one_deeper false false true e = cc
 one_deeper false false false e = refl
 
-styled_parts_in : (pages : Pages) (all : List Item) (i : ℕ) (s : Setting) (within bold italic : Bool) (before : List ContentSign) (t : StyledContent) (after : List ContentSign)
+-- the calls of what is behind a style
+sources_behind : (pages : Pages) (calls : List OuterCall) (i : ℕ) (t : StyledContent) (after : List ContentSign)
+    → AreSourcesAt calls i (written_calls pages (signs_before t after)) → AreSourcesAt calls (calls_behind pages i t) (written_calls pages after)
+sources_behind pages calls i finished after a = a
+sources_behind pages calls i (sign (letter c) t) after a = sources_behind pages calls i t after a
+sources_behind pages calls i (sign (thing x) t) after a =
+    let own : List OuterCall = (expanded_page pages x.source).outer in
+    let both = sources_split calls i own (written_calls pages (signs_before t after)) a in
+    sources_behind pages calls (i + length own) t after both.1
+sources_behind pages calls i (styled kind opening closing inside t) after a =
+    let mark : List OuterCall = (expanded_page pages (mark_source kind)).outer in
+    let signs : List ContentSign = signs_before t after in
+    let closes : List ContentSign = delimiter kind closing ∷ signs in
+    let j : ℕ = i + length mark in
+    let m : ℕ = calls_behind pages j inside + length mark in
+    let first = sources_split calls i mark (written_calls pages (signs_before inside closes)) a in
+    let last = sources_split calls (calls_behind pages j inside) mark (written_calls pages signs) (sources_behind pages calls j inside closes first.1) in
+    sources_behind pages calls m t after last.1
+
+-- a node of the page, or what is put
+styled_thing_parts : (n : ℕ) (pages : Pages) (calls : List OuterCall) (all : List Item) (i : ℕ) (x : Thing) → IsStyledThing pages x → IsFlat x.role
+    → AreSourcesAt calls i (expanded_page pages x.source).outer → EachNode (IsPartIn n calls all) (line_parts (part_items pages i x.source))
+styled_thing_parts n pages calls all i x (inl k) f a =
+    let own = k.0 in
+    let shut = own.shut in
+    thing_parts n pages calls all i x own.folder shut.0 a
+styled_thing_parts n pages calls all i x (inr p) f a =
+    let ps : List Part = line_parts (part_items pages i x.source) in
+    simple_within n calls all ps (page_given ps (some_of_page ps (put_some pages i x p f)))
+
+styled_parts_in : (pages : Pages) (calls : List OuterCall) (all : List Item) (i : ℕ) (s : Setting) (within bold italic : Bool) (before : List ContentSign) (t : StyledContent) (after : List ContentSign)
     → AreStyledThings pages (signs_before t after) → AreNested bold italic t → AreOwnAt within t (owns_in pages i (signs_before t after))
     → AreLastOf all i (items_with s before (signs_before t after) (owns_in pages i (signs_before t after)))
-    → EachNode (IsPartIn (depth bold italic) all) (styled_with false s before t after (owns_in pages i (signs_before t after)))
-styled_parts_in pages all i s within bold italic before finished after h k o f =
-    let u : Bool = is_guarded s before after in simple_within (depth bold italic) all (parts Text (guard_items u)) (guard_own u)
-styled_parts_in pages all i s within bold italic before (sign (letter c) t) after h k o f =
+    → AreSourcesAt calls i (written_calls pages (signs_before t after))
+    → EachNode (IsPartIn (depth bold italic) calls all) (styled_with false s before t after (owns_in pages i (signs_before t after)))
+styled_parts_in pages calls all i s within bold italic before finished after h k o f y =
+    let u : Bool = is_guarded s before after in simple_within (depth bold italic) calls all (parts Text (guard_items u)) (guard_own u)
+styled_parts_in pages calls all i s within bold italic before (sign (letter c) t) after h k o f y =
     let signs : List ContentSign = signs_before t after in
     let e : Bool = is_escaped s.within s.place before c signs in
     let u : Bool = is_guarded s before (letter c ∷ signs) in
-    let P : ItemTree → Type 0 = λ (v : ItemTree). IsPartIn (depth bold italic) all v in
+    let P : ItemTree → Type 0 = λ (v : ItemTree). IsPartIn (depth bold italic) calls all v in
     let more_parts : List Part = styled_with false s (letter c ∷ before) t after (owns_in pages i signs) in
-    each_both P (parts Text (guard_items u)) (parts Text (letter_items e c) ++ more_parts) (simple_within (depth bold italic) all (parts Text (guard_items u)) (guard_own u))
-    (each_both P (parts Text (letter_items e c)) more_parts (simple_within (depth bold italic) all (parts Text (letter_items e c)) (letter_own e c))
-    (styled_parts_in pages all i s within bold italic (letter c ∷ before) t after h k.1 o
-    (last_letter all i c u e (items_with s (letter c ∷ before) signs (owns_in pages i signs)) f)))
-styled_parts_in pages all i s within bold italic before (sign (thing x) t) after h k o f =
+    each_both P (parts Text (guard_items u)) (parts Text (letter_items e c) ++ more_parts) (simple_within (depth bold italic) calls all (parts Text (guard_items u)) (guard_own u))
+    (each_both P (parts Text (letter_items e c)) more_parts (simple_within (depth bold italic) calls all (parts Text (letter_items e c)) (letter_own e c))
+    (styled_parts_in pages calls all i s within bold italic (letter c ∷ before) t after h k.1 o
+    (last_letter all i c u e (items_with s (letter c ∷ before) signs (owns_in pages i signs)) f) y))
+styled_parts_in pages calls all i s within bold italic before (sign (thing x) t) after h k o f y =
     let signs : List ContentSign = signs_before t after in
     let u : Bool = is_guarded s before (thing x ∷ signs) in
-    let P : ItemTree → Type 0 = λ (v : ItemTree). IsPartIn (depth bold italic) all v in
+    let P : ItemTree → Type 0 = λ (v : ItemTree). IsPartIn (depth bold italic) calls all v in
     let next : ℕ = i + calls_in pages x.source in
     let own : List Part = line_parts (part_items pages i x.source) in
     let more_parts : List Part = styled_with false s (thing x ∷ before) t after (owns_in pages next signs) in
-    each_both P (parts Text (guard_items u)) (own ++ more_parts) (simple_within (depth bold italic) all (parts Text (guard_items u)) (guard_own u))
-    (each_both P own more_parts (simple_within (depth bold italic) all own (own_texts within x (part_items pages i x.source) o.0))
-    (styled_parts_in pages all next s within bold italic (thing x ∷ before) t after h.1 k.1 o.1
-    (last_thing pages all i x u (items_with s (thing x ∷ before) signs (owns_in pages next signs)) f)))
-styled_parts_in pages all i s within bold italic before (styled kind opening closing inside t) after h k o f =
+    let both = sources_split calls i (expanded_page pages x.source).outer (written_calls pages signs) y in
+    each_both P (parts Text (guard_items u)) (own ++ more_parts) (simple_within (depth bold italic) calls all (parts Text (guard_items u)) (guard_own u))
+    (each_both P own more_parts (styled_thing_parts (depth bold italic) pages calls all i x h.0 k.0 both.0)
+    (styled_parts_in pages calls all next s within bold italic (thing x ∷ before) t after h.1 k.1 o.1
+    (last_thing pages all i x u (items_with s (thing x ∷ before) signs (owns_in pages next signs)) f) both.1))
+styled_parts_in pages calls all i s within bold italic before (styled kind opening closing inside t) after h k o f y =
     let first : List ContentSign = delimiter kind opening ∷ before in
     let past : List ContentSign = signs_past inside first in
     let last : List ContentSign = delimiter kind closing ∷ past in
@@ -314,7 +349,7 @@ styled_parts_in pages all i s within bold italic before (styled kind opening clo
     let n : ℕ = calls_behind pages j inside in
     let m : ℕ = n + calls_in pages (mark_source kind) in
     let u : Bool = is_guarded s before (delimiter kind opening ∷ held) in
-    let P : ItemTree → Type 0 = λ (v : ItemTree). IsPartIn (depth bold italic) all v in
+    let P : ItemTree → Type 0 = λ (v : ItemTree). IsPartIn (depth bold italic) calls all v in
     let a : AreLastOf all j (items_with s first held (owns_in pages j held)) =
     last_thing pages all i (mark_thing kind opening) u (items_with s first held (owns_in pages j held)) f in
     let b : AreLastOf all n (items_with s past closes (owns_in pages n closes)) = last_behind pages all j s first inside closes a in
@@ -325,10 +360,13 @@ styled_parts_in pages all i s within bold italic before (styled kind opening clo
     let ps : List Part = styled_with false s first inside closes owns in
     let qs : List Part = styled_with false s last t after (owns_left (owns_past inside owns)) in
     let out : AreOwnAt within t (owns_in pages m signs) = subst (λ (os : List (List Item)). AreOwnAt within t (owns_left os)) same o.1 in
-    let inner_parts : EachNode (IsPartIn (depth (kind || bold) (not kind || italic)) all) ps =
-    styled_parts_in pages all j s true (kind || bold) (not kind || italic) first inside closes h.1 k.1 o.0 a in
-    let style : IsPartIn (depth bold italic) all (style_tree kind ps) =
-    subst (λ (d : ℕ). IsPartIn d all (style_tree kind ps)) (sym (one_deeper kind bold italic k.0)) (inr (
+    let mark : List OuterCall = (expanded_page pages (mark_source kind)).outer in
+    let first_calls = sources_split calls i mark (written_calls pages held) y in
+    let last_calls = sources_split calls n mark (written_calls pages signs) (sources_behind pages calls j inside closes first_calls.1) in
+    let inner_parts : EachNode (IsPartIn (depth (kind || bold) (not kind || italic)) calls all) ps =
+    styled_parts_in pages calls all j s true (kind || bold) (not kind || italic) first inside closes h.1 k.1 o.0 a first_calls.1 in
+    let style : IsPartIn (depth bold italic) calls all (style_tree kind ps) =
+    subst (λ (d : ℕ). IsPartIn d calls all (style_tree kind ps)) (sym (one_deeper kind bold italic k.0)) (inr (
       kind,
       ps,
       refl,
@@ -338,8 +376,8 @@ styled_parts_in pages all i s within bold italic before (styled kind opening clo
     )) in
     let later : EachNode P qs =
     subst (λ (os : List (List Item)). EachNode P (styled_with false s last t after (owns_left os))) (sym same)
-    (styled_parts_in pages all m s within bold italic last t after (each_behind pages inside closes h.1).1 k.2 out c) in
-    each_both P (parts Text (guard_items u)) (node (style_tree kind ps) ∷ qs) (simple_within (depth bold italic) all (parts Text (guard_items u)) (guard_own u)) (style, later)
+    (styled_parts_in pages calls all m s within bold italic last t after (each_behind pages inside closes h.1).1 k.2 out c last_calls.1) in
+    each_both P (parts Text (guard_items u)) (node (style_tree kind ps) ∷ qs) (simple_within (depth bold italic) calls all (parts Text (guard_items u)) (guard_own u)) (style, later)
 
 -- ---- the calls of a node
 
@@ -364,10 +402,11 @@ groups_of pages k s t h n own items given calls =
     let signs : List ContentSign = signs_in t in
     let q : List ℕ = spelled s signs in
     record {
-      parts = λ i.
-          subst (ArePartsIn (part_items pages i q)) (sym (given i))
-          (subst (λ (xs : List Item). ArePartsIn xs (styled_with false s [] t [] (owns_in pages i signs))) (sym (items i))
-          (styled_parts_in pages (items_with s [] signs (owns_in pages i signs)) i s false false false [] t [] h n (own i) (λ j l. refl)));
+      parts = λ cs i a.
+          subst (ArePartsIn cs (part_items pages i q)) (sym (given i))
+          (subst (λ (xs : List Item). ArePartsIn cs xs (styled_with false s [] t [] (owns_in pages i signs))) (sym (items i))
+          (styled_parts_in pages cs (items_with s [] signs (owns_in pages i signs)) i s false false false [] t [] h n (own i) (λ j l. refl)
+          (sources_before cs i (written_calls pages signs) (expanded_page pages (source_of k q)).outer calls a)));
       groups = λ i.
           subst (λ (ps : List Part). AreGroups (part_items pages i q) (call_pieces (children ps))) (sym (given i))
           (subst (λ (xs : List Item). AreGroups xs (call_pieces (children (styled_with false s [] t [] (owns_in pages i signs))))) (sym (items i))

@@ -6,7 +6,8 @@ use Rattle.wt_tree.specs.declared.edit_shape.Place.TheVariants as place
 use Rattle.wt_guards.specs.Content.{ContentSign, Thing, is_group as is_call, letter, thing}
 use Rattle.wt_guards.specs.Guards.{Setting, nowiki, spelled}
 use Rattle.wt_guards.specs.declared.role.Role.{Role}
-use Rattle.wt_guards.specs.declared.role.Role.TheVariants.{Bare, External, Function, Group, Link, Mark, Node, Switch, Toggle}
+use Rattle.wt_guards.specs.declared.role.Role.TheVariants.{Group}
+use Rattle.wt_guards.specs.declared.role.Transclusion.{Transclusion}
 use Rattle.wt_inline.specs.Parts.{parts}
 use Rattle.wt_inline.specs.declared.loose.Loose.TheVariants.{Text}
 use Rattle.wt_context.specs.Line.{line_parts}
@@ -15,11 +16,11 @@ use Rattle.wt_expand.specs.Work.{Pages}
 use Rattle.wt_part_laws.specs.CallPieces.{AreOwnOrGiven}
 use Rattle.wt_part_laws.specs.Expanded.{part_items}
 use Rattle.wt_text_edit_laws.specs.TextBlocks.{TextBlock, a_heading, a_paragraph}
-use Rattle.wt_beside_laws.proofs.Groups.Folders.{all_seen, given_as, inside_in}
+use Rattle.wt_beside_laws.proofs.Groups.Folders.{all_seen, folder_case, given_as, group_inside}
 use Rattle.wt_beside_laws.proofs.Made.Items.{PartsHave, guard_has}
 use Rattle.wt_beside_laws.proofs.Styled.SentStyles.{nowiki_alone}
 use Rattle.wt_beside_laws.proofs.Styled.StyledNodes.{nowiki_items}
-use Rattle.wt_beside_laws.specs.Called.{AllMeetWith, AllSeenIn, AreGiven, AreSomeOfPage, HasUncalled, IsGivenAs, IsOfFolder, IsOwnNode, items_with, owns_in}
+use Rattle.wt_beside_laws.specs.Called.{AllMeetWith, AllSeenIn, AreGiven, AreSomeOfPage, HasUncalled, IsGivenAs, IsOwnNode, StaysAsItIs, StaysRound, items_with, owns_in}
 use Rattle.wt_beside_laws.specs.Content.{guard_items}
 use Rattle.wt_beside_laws.specs.Flat.{IsFlat}
 use Rattle.wt_beside_laws.specs.FlatBlocks.{AreSealed, IsSealed}
@@ -28,7 +29,7 @@ use Rattle.wt_beside_laws.specs.Lines.{AreCharacters}
 use Rattle.wt_beside_laws.specs.NodeItems.{node_items}
 use Rattle.wt_beside_laws.specs.Stood.{things}
 use Rattle.wt_beside_laws.specs.Styled.{AreNested, StyledContent, delimiter, finished, mark_source, sign, signs_before, signs_in, styled}
-use Rattle.wt_beside_laws.specs.StyledCalls.{AreOwnAt, IsOwnAt, IsStyledCalled, IsStyledCalledHeading, owns_left}
+use Rattle.wt_beside_laws.specs.StyledCalls.{AreOwnAt, IsOfPage, IsOwnAt, IsStyledCalled, IsStyledCalledHeading, owns_left}
 use Rattle.wt_beside_laws.specs.StyledNodes.{IsPut}
 use Rattle.wt_called_edit_laws.proofs.Styles.Free.{PlainWithin}
 use Rattle.wt_called_edit_laws.proofs.Styles.Put.{put_items, put_own, put_part, put_read, put_sealed, put_source, put_utf8}
@@ -159,32 +160,43 @@ flat_put x p f = elim p [
   | inr w ↦ w.1
 ]
 
-stays_items : (r : Role) (pages : Pages) (i : ℕ) (x : Thing) → IsOfFolder r pages x → is_call r ≡ false → part_items pages i x.source ≡ node_items x.source
-stays_items Link pages i x h e = h.items i
-stays_items External pages i x h e = h.items i
-stays_items (Bare ends) pages i x h e = h.items i
-stays_items Switch pages i x h e = h.items i
-stays_items Toggle pages i x h e = h.items i
-stays_items (Mark ends began) pages i x h e = h.items i
-stays_items (Group g) pages i x h e = absurd (cc)
-stays_items Function pages i x h e = h.items i
-stays_items Node pages i x h e = h.items i
+pub put_some : (pages : Pages) (i : ℕ) (x : Thing) → IsPut x → IsFlat x.role → AreSomeOfPage (line_parts (part_items pages i x.source))
+put_some pages i x p f =
+    subst (λ (xs : List Item). AreSomeOfPage (line_parts xs)) (sym (put_items pages i x.source (put_source x p)))
+    (subst (λ (bs : List ℕ). AreSomeOfPage (line_parts (node_items bs))) (sym (flat_put x p f)) nowiki_some)
 
-pub own_some : (pages : Pages) (i : ℕ) (x : Thing) → IsStyledThing pages x → IsFlat x.role → is_call x.role ≡ false → AreSomeOfPage (line_parts (part_items pages i x.source))
+not_call : (r : Role) (g : Transclusion) → r ≡ Group g → is_call r ≡ false → ⊥
+not_call r g i e = let no : true ≡ false = sym (ap is_call i) ∙ e in cc
+
+pub own_some : (pages : Pages) (i : ℕ) (x : Thing) → IsStyledThing pages x → IsFlat x.role → is_call x.role ≡ false → IsOfPage (part_items pages i x.source)
 own_some pages i x (inl k) f e =
     let own = k.0 in
     let mine = k.1 in
-    subst (λ (xs : List Item). AreSomeOfPage (line_parts xs)) (sym (stays_items x.role pages i x own.folder e)) (mine.some e)
-own_some pages i x (inr p) f e =
-    subst (λ (xs : List Item). AreSomeOfPage (line_parts xs)) (sym (put_items pages i x.source (put_source x p)))
-    (subst (λ (bs : List ℕ). AreSomeOfPage (line_parts (node_items bs))) (sym (flat_put x p f)) nowiki_some)
+    elim (folder_case x.role pages x own.folder) [
+      | inl s ↦
+          let stays : StaysAsItIs pages x = s.0 in
+          inl (subst (λ (xs : List Item). AreSomeOfPage (line_parts xs)) (sym (stays.items i)) (mine.some e))
+      | inr c ↦ elim c [
+        | inl s ↦ let stays : StaysRound pages x = s.0 in inr (stays.round i)
+        | inr g ↦ absurd (not_call x.role g.0 g.1 e)
+      ]
+    ]
+own_some pages i x (inr p) f e = inl (put_some pages i x p f)
 
 pub call_or_not : (b : Bool) → (b ≡ true) ⊎ (b ≡ false)
 call_or_not true = inl refl
 call_or_not false = inr refl
 
 own_call : (pages : Pages) (i : ℕ) (x : Thing) → IsStyledThing pages x → is_call x.role ≡ true → AreOwnOrGiven (line_parts (part_items pages i x.source))
-own_call pages i x (inl k) e = let own = k.0 in inside_in pages i x own.folder
+own_call pages i x (inl k) e =
+    let own = k.0 in
+    elim (folder_case x.role pages x own.folder) [
+      | inl s ↦ let no : true ≡ false = sym e ∙ s.1 in absurd (cc)
+      | inr c ↦ elim c [
+        | inl s ↦ let no : true ≡ false = sym e ∙ s.1 in absurd (cc)
+        | inr g ↦ group_inside pages i g.0 x g.2
+      ]
+    ]
 own_call pages i x (inr p) e = absurd (no_call p)
   where
     no_call : IsPut x → ⊥

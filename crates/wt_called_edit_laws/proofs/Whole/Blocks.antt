@@ -50,6 +50,7 @@ use Rattle.wt_text_edit_laws.specs.TypedHeadings.{Sides, opening, closing_items,
 use Rattle.wt_text_edit_laws.proofs.Blocks.BlockLeaves.{items_of_page}
 use Rattle.wt_text_edit_laws.proofs.Blocks.OwnContents.{content_own}
 use Rattle.wt_text_edit_laws.proofs.Texts.TypedShown.{chars_of_page, both_of_page}
+use Rattle.wt_beside_laws.specs.RoundCalls.{AreShutCalls}
 use Rattle.wt_beside_laws.specs.Given.{GivesSigns}
 use Rattle.wt_called_edit_laws.specs.CalledBlocks.{counted}
 use Rattle.wt_called_edit_laws.specs.CalledContents.{items_round, tree_round}
@@ -58,7 +59,7 @@ use Rattle.wt_called_edit_laws.specs.CallingGroups.{AreCallingOutside, block_wit
 use Rattle.wt_called_edit_laws.specs.Parts.{calls_to, calls_past, called_items}
 use Rattle.wt_called_edit_laws.specs.Settled.{settled, all_settled}
 use Rattle.wt_called_edit_laws.specs.Untangled.{IsWhole, AreWhole}
-use Rattle.wt_called_edit_laws.specs.WholeContents.{of_call, AreGroups, IsPartIn, ArePartsIn, AreShutParts, AreShutCalls, HoldsGroups, EachWhole}
+use Rattle.wt_called_edit_laws.specs.WholeContents.{of_call, AreGroups, IsPartIn, ArePartsIn, AreShutParts, HoldsGroups, EachWhole}
 use Rattle.wt_called_edit_laws.proofs.CalledUtf8.{called_utf8}
 use Rattle.wt_called_edit_laws.proofs.Cells.CallingFrames.{own_calm}
 use Rattle.wt_called_edit_laws.proofs.Cells.ContentItems.{tree_is}
@@ -70,6 +71,7 @@ use Rattle.wt_called_edit_laws.proofs.SpotSources.{OnesAt, SpotOnes, tree_opened
 use Rattle.wt_called_edit_laws.proofs.Whole.CallPlaces.{AtPlaces, AreCallsAt, AreBlockCalls, part_placed, block_calls, page_placed}
 use Rattle.wt_called_edit_laws.proofs.Whole.OfCall.{of_append, of_page, own_from, before_part, behind_part}
 use Rattle.wt_called_edit_laws.proofs.Whole.Opened.{to_opened, from_opened}
+use Rattle.wt_called_edit_laws.proofs.Whole.SourcesAt.{placed_sources}
 use Rattle.wt_called_edit_laws.proofs.Whole.Pieces.{AreShutTrees, children_shut, some_items, AreGroupsHere, IsPartHere, here_pieces, own_here, IsAmong, pieces_fine, pieces_shut}
 
 -- ---- a block at its place
@@ -242,8 +244,8 @@ groups_here e xs (given j t ts ∷ ps) f g =
 
 -- so in bold and italic
 part_here : (d : ℕ) (e : Expanded) (xs : List Item) (t : ItemTree)
-    → ((j : ℕ) → GivesSigns j (of_call j xs) → (of_call j e.items ≡ of_call j xs) × (ends_open (source_of_call (slice_get e.outer j)) ≡ false)) → IsPartIn d xs t
-    → IsPartHere d e t
+    → ((j : ℕ) → GivesSigns j (of_call j xs) → (of_call j e.items ≡ of_call j xs) × (ends_open (source_of_call (slice_get e.outer j)) ≡ false))
+    → IsPartIn d e.outer xs t → IsPartHere d e t
 part_here zero e xs t f h = h
 part_here (suc d) e xs t f (inl h) = inl h
 part_here (suc d) e xs t f (inr r) =
@@ -251,7 +253,7 @@ part_here (suc d) e xs t f (inr r) =
   where
     each_here : (d : ℕ) (e : Expanded) (xs : List Item) (ps : List Part)
         → ((j : ℕ) → GivesSigns j (of_call j xs) → (of_call j e.items ≡ of_call j xs) × (ends_open (source_of_call (slice_get e.outer j)) ≡ false))
-        → ((u : ItemTree) → IsPartIn d xs u → IsPartHere d e u) → EachNode (IsPartIn d xs) ps → EachNode (IsPartHere d e) ps
+        → ((u : ItemTree) → IsPartIn d e.outer xs u → IsPartHere d e u) → EachNode (IsPartIn d e.outer xs) ps → EachNode (IsPartHere d e) ps
     each_here d e xs [] f g h = tt
     each_here d e xs (loose k o b ∷ ps) f g h = each_here d e xs ps f g h
     each_here d e xs (node u ∷ ps) f g h = (g u h.0, each_here d e xs ps f g h.1)
@@ -296,11 +298,11 @@ block_parts : (e : Expanded) (pages : Pages) (k at : ℕ) (s : BlockSpot) (ss : 
 block_parts e pages k at s ss behind h w =
     let i : ℕ = calls_to pages k s in
     let xs : List Item = part_items pages i s.text in
-    each_part e xs (content_parts_of s.block xs) (calls_here e pages k at s ss behind h w) (w.parts i)
+    each_part e xs (content_parts_of s.block xs) (calls_here e pages k at s ss behind h w) (w.parts e.outer i (placed_sources e.outer (at + length s.before) i (expanded_page pages (source_of s.block s.text)).outer h.calls))
   where
     each_part : (e : Expanded) (xs : List Item) (ps : List Part)
         → ((j : ℕ) → GivesSigns j (of_call j xs) → (of_call j e.items ≡ of_call j xs) × (ends_open (source_of_call (slice_get e.outer j)) ≡ false))
-        → ArePartsIn xs ps → EachNode (IsPartHere 2 e) ps
+        → ArePartsIn e.outer xs ps → EachNode (IsPartHere 2 e) ps
     each_part e xs [] f g = tt
     each_part e xs (loose k o b ∷ ps) f g = each_part e xs ps f g
     each_part e xs (node u ∷ ps) f g = (part_here 2 e xs u f g.0, each_part e xs ps f g.1)

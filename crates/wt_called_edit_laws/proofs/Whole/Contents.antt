@@ -29,8 +29,7 @@ use Rattle.wt_annotated.specs.Clean.{is_no_call, is_page}
 use Rattle.wt_annotated.specs.Labels.{label_at}
 use Rattle.wt_annotated.specs.Seams.{text_from}
 use Rattle.wt_isolation.specs.OpenTags.{ends_open, node_ends_open}
-use Rattle.wt_part_laws.specs.CallPieces.{AreItemsOf, IsOfCall, call_pieces}
-use Rattle.wt_part_laws.proofs.CallPieces.{as_pieces}
+use Rattle.wt_part_laws.specs.CallPieces.{AreItemsOf, IsOfCall, EachNode, call_pieces}
 use Rattle.wt_part_laws.specs.Expanded.{part_items, calls_in}
 use Rattle.wt_part_laws.specs.MovedCalls.{IsMoved, AreMoved}
 use Rattle.wt_part_laws.specs.Standing.{standing}
@@ -38,22 +37,25 @@ use Rattle.wt_text_edit_laws.specs.LonePages.{page_chars}
 use Rattle.wt_text_edit_laws.specs.ParagraphParts.{joined_parts}
 use Rattle.wt_text_edit_laws.specs.TextBlocks.{a_paragraph}
 use Rattle.wt_beside_laws.specs.NodeItems.{node_items}
-use Rattle.wt_beside_laws.specs.Called.{items_with, owns_in, parts_with, GivesGroup, ArePageParts, StaysAsItIs, IsOfFolder, AreOfFolder, IsCalledIn}
+use Rattle.wt_beside_laws.specs.Called.{items_with, owns_in, parts_with, GivesGroup, ArePageParts, StaysAsItIs, StaysRound, IsOfFolder, AreOfFolder, IsCalledIn}
 use Rattle.wt_beside_laws.specs.Content.{guard_items, letter_items}
 use Rattle.wt_beside_laws.specs.Given.{AreGivenBy, GivesSigns}
+use Rattle.wt_beside_laws.specs.RoundCalls.{IsRoundCalls, AreShutCalls}
 use Rattle.wt_beside_laws.proofs.LineShown.{guard_tree}
-use Rattle.wt_beside_laws.proofs.Groups.CalledBlocks.{guard_parts, letter_parts, parts_own, some_of_page}
+use Rattle.wt_beside_laws.proofs.Groups.CalledBlocks.{each_both, guard_own, guard_parts, letter_own, letter_parts, called_pieces, some_of_page}
 use Rattle.wt_beside_laws.proofs.Groups.CalledParagraphs.{called_parts}
-use Rattle.wt_beside_laws.proofs.Groups.Folders.{folder_case, all_inside, called_in}
-use Rattle.wt_called_edit_laws.specs.WholeContents.{of_call, AreGroups, IsShutNode, AreShutParts, AreShutCalls, IsShut, AreShut, ArePartsIn, HoldsGroups, IsWholeIn}
-use Rattle.wt_called_edit_laws.proofs.Whole.PartsIn.{simple_parts}
+use Rattle.wt_beside_laws.proofs.Groups.Folders.{folder_case, stays_inside, group_inside, all_inside, called_in}
+use Rattle.wt_beside_laws.proofs.Groups.RoundNodes.{deep_round}
+use Rattle.wt_called_edit_laws.specs.WholeContents.{of_call, AreGroups, IsShutNode, AreShutParts, IsShut, AreShut, IsShutRound, IsPartIn, ArePartsIn, HoldsGroups, IsWholeIn}
+use Rattle.wt_called_edit_laws.proofs.Whole.PartsIn.{simple_within, simple_parts, round_node}
 use Rattle.wt_called_edit_laws.specs.Written.{written_calls}
 use Rattle.wt_called_edit_laws.specs.WrittenAnew.{IsWrittenBeside}
 use Rattle.wt_called_edit_laws.specs.PartTexts.{AreSourcesAt}
 use Rattle.wt_called_edit_laws.proofs.PartTexts.{OwnPage, own_page, call_text, part_text}
-use Rattle.wt_called_edit_laws.proofs.Whole.GroupsAlone.{past_first, groups_call, groups_page}
+use Rattle.wt_called_edit_laws.proofs.Whole.GroupsAlone.{past_first, groups_call, groups_page, groups_round}
 use Rattle.wt_called_edit_laws.proofs.Whole.OfCall.{is_same, of_before, of_here, of_past, of_append, of_own, of_page, of_same, before_part, behind_part}
 use Rattle.wt_called_edit_laws.proofs.Whole.Pieces.{some_items}
+use Rattle.wt_called_edit_laws.proofs.Whole.SourcesAt.{sources_split, sources_before}
 use Rattle.wt_called_edit_laws.proofs.Written.Held.{written_gives}
 use Rattle.wt_called_edit_laws.proofs.Written.Signs.{content_written}
 
@@ -103,12 +105,19 @@ call_shut_parts j (node t ∷ ps) h = (not_page j t h.0, call_shut_parts j ps h.
         let none : list_all is_page (k.first ∷ k.others) ≡ false = ap (λ (v : Bool). v && list_all is_page k.others) first in
         let no : false ≡ true = sym none ∙ of_page in absurd (cc)
 
+-- nor is a node round calls by itself
+pub round_shut_parts : (mine : List Item) → IsRoundCalls mine → AreShutParts (line_parts mine)
+round_shut_parts mine r = subst AreShutParts (sym r.is) ((λ e. let no : true ≡ false = sym e ∙ r.called in absurd (cc)), tt)
+
 pub own_shut : (pages : Pages) (i : ℕ) (t : Thing) → IsOfFolder t.role pages t → IsShut t → AreShutParts (line_parts (numbered i (page_stretches pages t.source)))
 own_shut pages i t h s = elim (folder_case t.role pages t h) [
   | inl k ↦
       let stays : StaysAsItIs pages t = k.0 in
       subst (λ (xs : List Item). AreShutParts (line_parts xs)) (sym (stays.items i)) (s.1 k.1)
-  | inr k ↦ let group = k.2 i in let gives = group.gives in call_shut_parts i (line_parts (numbered i (page_stretches pages t.source))) gives.inside
+  | inr e ↦ elim e [
+    | inl k ↦ let stays : StaysRound pages t = k.0 in round_shut_parts (numbered i (page_stretches pages t.source)) (stays.round i)
+    | inr k ↦ let group = k.2 i in let gives = group.gives in call_shut_parts i (line_parts (numbered i (page_stretches pages t.source))) gives.inside
+  ]
 ]
 
 pub parts_shut : (pages : Pages) (i : ℕ) (s : Setting) (before signs : List ContentSign) → AreOfFolder pages signs → AreShut signs
@@ -210,15 +219,23 @@ other_parts i j (node t ∷ ps) e h =
 later_call : (i j : ℕ) → j < i → (i == j) ≡ false
 later_call i j l = grind (arith, nat_tests)
 
+-- what is in a node round calls are its items
+round_items_of : (j : ℕ) (mine : List Item) → IsRoundCalls mine → of_call j (held_parts (line_parts mine)) ≡ of_call j mine
+round_items_of j mine r =
+    ap (λ (ps : List Part). of_call j (held_parts ps)) r.is ∙ ap (of_call j) (append-nil (tree_items r.tree) ∙ r.whole)
+
 pub thing_none : (pages : Pages) (i j : ℕ) (t : Thing) → IsOfFolder t.role pages t → j < i → of_call j (held_parts (line_parts (part_items pages i t.source))) ≡ []
 thing_none pages i j t h l = elim (folder_case t.role pages t h) [
   | inl k ↦
       let stays : StaysAsItIs pages t = k.0 in
       page_none j (line_parts (part_items pages i t.source)) (subst (λ (xs : List Item). ArePageParts (line_parts xs)) (sym (stays.items i)) (some_of_page (line_parts (node_items t.source)) stays.own))
-  | inr k ↦
-      let group = k.2 i in
-      let gives : GivesSigns i (part_items pages i t.source) = group.gives in
-      other_parts i j (line_parts (part_items pages i t.source)) (later_call i j l) gives.inside
+  | inr e ↦ elim e [
+    | inl k ↦ let stays : StaysRound pages t = k.0 in round_items_of j (part_items pages i t.source) (stays.round i) ∙ before_part pages j i t.source l
+    | inr k ↦
+        let group = k.2 i in
+        let gives : GivesSigns i (part_items pages i t.source) = group.gives in
+        other_parts i j (line_parts (part_items pages i t.source)) (later_call i j l) gives.inside
+  ]
 ]
 
 pub three_none : (j : ℕ) (ps qs rs : List Part) → of_call j (held_parts ps) ≡ [] → of_call j (held_parts qs) ≡ [] → of_call j (held_parts rs) ≡ []
@@ -279,7 +296,7 @@ group_here pages all i s t g before after h k f later =
     ∙ append-nil xs in
     subst (λ (ys : List Item). AreGroups all (call_pieces (children (line_parts ys ++ more)))) is
     (groups_call all i more (subst (λ (ys : List Item). AreGivenBy i (line_parts ys)) (sym is) gives.inside) (subst (GivesSigns i) (sym is) gives)
-    (as_pieces more (parts_own s (thing t ∷ before) after (owns_in pages next after) (all_inside pages next after k)))
+    (called_pieces s (thing t ∷ before) after (owns_in pages next after) (all_inside pages next after k))
     (past_first i (held_parts more) (later_none pages next i s (thing t ∷ before) after k less)) later)
 
 pub no_groups : (xs : List Item) → AreGroups xs (call_pieces (children []))
@@ -314,7 +331,10 @@ groups_from pages all i s before (thing t ∷ after) h f =
           let stays : StaysAsItIs pages t = k.0 in
           groups_page all (line_parts (part_items pages i t.source)) more
           (subst (λ (xs : List Item). ArePageParts (line_parts xs)) (sym (stays.items i)) (some_of_page (line_parts (node_items t.source)) stays.own)) later
-      | inr k ↦ group_here pages all i s t k.0 before after k.2 h.1 f later
+      | inr e ↦ elim e [
+        | inl k ↦ let stays : StaysRound pages t = k.0 in groups_round all (part_items pages i t.source) more (stays.round i) later
+        | inr k ↦ group_here pages all i s t k.0 before after k.2 h.1 f later
+      ]
     ])
 
 -- ---- the calls of a node
@@ -422,9 +442,12 @@ group_source pages g source h =
 pub thing_calls : (pages : Pages) (t : Thing) → IsOfFolder t.role pages t → ends_open t.source ≡ false → AreShutCalls (expanded_page pages t.source).outer
 thing_calls pages t h e = elim (folder_case t.role pages t h) [
   | inl k ↦ subst AreShutCalls (sym (stays_calls pages t k.0)) tt
-  | inr k ↦
-      let one = group_source pages k.0 t.source k.2 in
-      subst AreShutCalls (sym one.is) (ap ends_open one.of_source ∙ e, tt)
+  | inr f ↦ elim f [
+    | inl k ↦ let stays : StaysRound pages t = k.0 in stays.calls
+    | inr k ↦
+        let one = group_source pages k.0 t.source k.2 in
+        subst AreShutCalls (sym one.is) (ap ends_open one.of_source ∙ e, tt)
+  ]
 ]
 
 pub calls_both : (cs ds : List OuterCall) → AreShutCalls cs → AreShutCalls ds → AreShutCalls (cs ++ ds)
@@ -447,6 +470,52 @@ moved_shut (c ∷ cs) (d ∷ ds) m h =
     let same : d.source ≡ c.source = ap (λ (x : OuterCall). x.source) o.now ∙ sym (ap (λ (x : OuterCall). x.source) o.was) in
     (ap ends_open same ∙ h.0, moved_shut cs ds m.1 h.1)
 
+-- ---- its nodes
+
+-- a node round calls is its source in the page
+round_is_shut : (pages : Pages) (calls : List OuterCall) (i : ℕ) (t : Thing) → StaysRound pages t → ends_open t.source ≡ false
+    → AreSourcesAt calls i (expanded_page pages t.source).outer → (r : IsRoundCalls (part_items pages i t.source)) → IsShutRound calls r.tree
+round_is_shut pages calls i t h e a r = record {
+  round = deep_round r.tree r.deep;
+  plain = r.plain;
+  shut = ap (λ (xs : List Item). ends_open (text_from calls None xs)) r.whole ∙ ap ends_open (part_text pages calls i t.source a) ∙ e;
+}
+
+pub thing_parts : (n : ℕ) (pages : Pages) (calls : List OuterCall) (all : List Item) (i : ℕ) (t : Thing) → IsOfFolder t.role pages t → ends_open t.source ≡ false
+    → AreSourcesAt calls i (expanded_page pages t.source).outer → EachNode (IsPartIn n calls all) (line_parts (part_items pages i t.source))
+thing_parts n pages calls all i t h e a = elim (folder_case t.role pages t h) [
+  | inl k ↦ simple_within n calls all (line_parts (part_items pages i t.source)) (stays_inside pages i t k.0)
+  | inr f ↦ elim f [
+    | inl k ↦
+        let stays : StaysRound pages t = k.0 in
+        let r : IsRoundCalls (part_items pages i t.source) = stays.round i in
+        subst (EachNode (IsPartIn n calls all)) (sym r.is) (round_node n calls all r.tree (round_is_shut pages calls i t stays e a r), tt)
+    | inr k ↦ simple_within n calls all (line_parts (part_items pages i t.source)) (group_inside pages i k.0 t k.2)
+  ]
+]
+
+pub signs_parts : (pages : Pages) (calls : List OuterCall) (all : List Item) (i : ℕ) (s : Setting) (before signs : List ContentSign) → AreOfFolder pages signs
+    → AreShut signs → AreSourcesAt calls i (written_calls pages signs) → ArePartsIn calls all (parts_with s before signs (owns_in pages i signs))
+signs_parts pages calls all i s before [] h g a = let u : Bool = is_guarded s before [] in simple_parts calls all (parts Text (guard_items u)) (guard_own u)
+signs_parts pages calls all i s before (letter c ∷ after) h g a =
+    let e : Bool = is_escaped s.within s.place before c after in
+    let u : Bool = is_guarded s before (letter c ∷ after) in
+    let P : ItemTree → Type 0 = λ (v : ItemTree). IsPartIn 2 calls all v in
+    let more : List Part = parts_with s (letter c ∷ before) after (owns_in pages i after) in
+    each_both P (parts Text (guard_items u)) (parts Text (letter_items e c) ++ more) (simple_parts calls all (parts Text (guard_items u)) (guard_own u))
+    (each_both P (parts Text (letter_items e c)) more (simple_parts calls all (parts Text (letter_items e c)) (letter_own e c))
+    (signs_parts pages calls all i s (letter c ∷ before) after h g a))
+signs_parts pages calls all i s before (thing t ∷ after) h g a =
+    let u : Bool = is_guarded s before (thing t ∷ after) in
+    let next : ℕ = i + calls_in pages t.source in
+    let P : ItemTree → Type 0 = λ (v : ItemTree). IsPartIn 2 calls all v in
+    let own : List Part = line_parts (part_items pages i t.source) in
+    let more : List Part = parts_with s (thing t ∷ before) after (owns_in pages next after) in
+    let both = sources_split calls i (expanded_page pages t.source).outer (written_calls pages after) a in
+    let shut = g.0 in
+    each_both P (parts Text (guard_items u)) (own ++ more) (simple_parts calls all (parts Text (guard_items u)) (guard_own u))
+    (each_both P own more (thing_parts 2 pages calls all i t h.0 shut.0 both.0) (signs_parts pages calls all next s (thing t ∷ before) after h.1 g.1 both.1))
+
 -- ---- the content
 
 pub written_groups : (pages : Pages) (s : Setting) (signs : List ContentSign) → IsWrittenBeside pages s signs → HoldsGroups pages a_paragraph (spelled s signs)
@@ -458,10 +527,11 @@ written_groups pages s signs h =
     let given : (i : ℕ) → joined_parts (lines (part_items pages i (spelled s signs))) ≡ parts_with s [] signs (owns_in pages i signs) =
     λ i. ap (λ (xs : List Item). joined_parts (lines xs)) (items i) ∙ called_parts s signs (owns_in pages i signs) (called_in pages i s signs c) in
     record {
-      parts = λ i.
-          let own = called_in pages i s signs c in
-          subst (ArePartsIn (part_items pages i (spelled s signs))) (sym (given i))
-          (simple_parts (part_items pages i (spelled s signs)) (parts_with s [] signs (owns_in pages i signs)) (parts_own s [] signs (owns_in pages i signs) own.own));
+      parts = λ calls i a.
+          let all : List Item = part_items pages i (spelled s signs) in
+          subst (ArePartsIn calls all) (sym (given i))
+          (signs_parts pages calls all i s [] signs c.given h.shut
+          (sources_before calls i (written_calls pages signs) (expanded_page pages (spelled s signs)).outer b.calls_are a));
       groups = λ i.
           subst (λ (ps : List Part). AreGroups (part_items pages i (spelled s signs)) (call_pieces (children ps))) (sym (given i))
           (subst (λ (xs : List Item). AreGroups xs (call_pieces (children (parts_with s [] signs (owns_in pages i signs))))) (sym (items i))

@@ -1,5 +1,5 @@
 -- What a call gives among the parts of a block is a group of the nodes that it gives on a line by itself.
-use Rattle.std.proofs.Common.{arith, ◌≡◌, ◌⊎◌, inl, ℕ, ◌==◌, Bool, true, false, not, Option, None, Some, List, [], ◌∷◌, ◌++◌, map, refl, sym, ap, ◌∙◌, subst}
+use Rattle.std.proofs.Common.{arith, ◌≡◌, ◌⊎◌, inl, inr, ℕ, ◌==◌, Bool, true, false, not, Option, None, Some, List, [], ◌∷◌, ◌++◌, map, refl, sym, ap, ◌∙◌, subst}
 use Rattle.std.specs.Prelude.{◌&&◌, if◌then◌else◌}
 use Rattle.std.proofs.lemmas.Bool.Decides.{nat_tests}
 use Rattle.std.proofs.lemmas.List.{map-append}
@@ -19,8 +19,10 @@ use Rattle.wt_part_laws.proofs.CallPieces.{IsApart, own_first, first_of_call, ch
 use Rattle.wt_part_laws.proofs.CallTexts.{itself, same_is}
 use Rattle.wt_beside_laws.specs.Called.{ArePageParts}
 use Rattle.wt_beside_laws.specs.Given.{AreGivenBy, GivesSigns}
+use Rattle.wt_beside_laws.specs.RoundCalls.{IsRoundCalls}
 use Rattle.wt_beside_laws.proofs.Groups.Faults.{node_first}
 use Rattle.wt_beside_laws.proofs.Groups.GivenNodes.{by_call_children}
+use Rattle.wt_beside_laws.proofs.Groups.RoundNodes.{deep_round}
 use Rattle.wt_called_edit_laws.specs.WholeContents.{of_call, AreGroups}
 use Rattle.wt_called_edit_laws.proofs.Whole.OfCall.{of_here}
 
@@ -161,6 +163,11 @@ pub groups_node : (xs : List Item) (t : ItemTree) (qs : List Part) → IsOwn t �
 groups_node xs t qs k h =
     subst (λ (ts : List ItemTree). AreGroups xs (call_pieces ts)) (sym (node_first t qs))
     (subst (λ (c : Option ℕ). AreGroups xs (piece_before c t (call_pieces (children qs)))) (sym (own_first t None k)) h)
+
+pub groups_round : (xs mine : List Item) (qs : List Part) → IsRoundCalls mine → AreGroups xs (call_pieces (children qs))
+    → AreGroups xs (call_pieces (children (line_parts mine ++ qs)))
+groups_round xs mine qs r h =
+    subst (λ (ps : List Part). AreGroups xs (call_pieces (children (ps ++ qs)))) (sym r.is) (groups_node xs r.tree qs (inr (deep_round r.tree r.deep)) h)
 
 pub groups_page : (xs : List Item) (ps qs : List Part) → ArePageParts ps → AreGroups xs (call_pieces (children qs))
     → AreGroups xs (call_pieces (children (ps ++ qs)))

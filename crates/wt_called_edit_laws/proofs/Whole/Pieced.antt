@@ -24,11 +24,12 @@ use Rattle.wt_called_edit_laws.specs.CallingEdits.{TakesLetters}
 use Rattle.wt_called_edit_laws.specs.EditableBlocks.{HoldsCalls}
 use Rattle.wt_called_edit_laws.specs.PageThings.{ArePageThings, thing_sources}
 use Rattle.wt_called_edit_laws.specs.PiecedParagraphs.{HasOwn, IsInPieces}
-use Rattle.wt_called_edit_laws.specs.WholeContents.{AreShutCalls}
+use Rattle.wt_beside_laws.specs.RoundCalls.{AreShutCalls}
 use Rattle.wt_called_edit_laws.specs.Written.{IsWrittenAs}
 use Rattle.wt_called_edit_laws.specs.WrittenAnew.{StayButForOthers}
 use Rattle.wt_called_edit_laws.proofs.Whole.Contents.{thing_calls, calls_both, moved_shut}
 use Rattle.wt_called_edit_laws.proofs.Whole.PartsIn.{parts_pieces}
+use Rattle.wt_called_edit_laws.proofs.Whole.SourcesAt.{sources_somewhere}
 use Rattle.wt_called_edit_laws.proofs.Written.InPieces.{pieces_items, pieces_written}
 use Rattle.wt_called_edit_laws.proofs.Written.Letters.{page_letters}
 use Rattle.wt_called_edit_laws.proofs.Written.NewContents.{calls_of, work_of}
@@ -105,7 +106,8 @@ pieced_holds pages q h =
       holds = λ i.
           let xs : List Item = part_items pages i q in
           let ps : List Part = content_parts_of a_paragraph xs in
-          holds_so ps (parts_pieces 2 xs ps (h.texts i)) (h.some i);
+          let there = sources_somewhere i (expanded_page pages q).outer in
+          holds_so ps (parts_pieces 2 there.0 xs ps (h.texts there.0 i there.1)) (h.some i);
       letters = subst (TakesLetters pages a_paragraph) h.is (page_letters pages h.pieces h.nodes h.parts h.among h.things);
       texts = part.texts;
       whole = record {

@@ -8,8 +8,8 @@ use Rattle.wt_tree.specs.declared.kind.Ranges.{Ranges}
 use Rattle.wt_tree.specs.EditShapes.{edit_shape}
 use Rattle.wt_tree.specs.Kinds.{is_leaf}
 use Rattle.wt_tree.specs.Source.{flat}
-use Rattle.wt_tree.specs.Tiling.{HasNoGroup, NoneIsGroup}
-use Rattle.wt_tree.specs.Tree.{Label, Tree, tree, Trees, none, more}
+use Rattle.wt_tree.specs.Tiling.{is_group, HasNoGroup, NoneIsGroup}
+use Rattle.wt_tree.specs.Tree.{Label, Tree, tree, Trees, none, more, label}
 use Rattle.wt_span.specs.Items.{Item, char, sources, call_of}
 use Rattle.wt_span.specs.Origins.{OuterCall, Expanded}
 use Rattle.wt_span.specs.Cuts.{source_of_call}
@@ -30,7 +30,7 @@ use Rattle.wt_annotated.specs.Seams.{first_of, last_of, parted, text_from}
 use Rattle.wt_annotated.specs.WithoutCalls.{inside_by, placed}
 use Rattle.wt_annotated.proofs.Seams.{last_append, text_append_from}
 use Rattle.wt_isolation.specs.GroupItems.{with_break_anew, empty_nowiki, items_alone}
-use Rattle.wt_isolation.specs.OpenTags.{ends_open, node_ends_open, any_ends_open}
+use Rattle.wt_isolation.specs.OpenTags.{ends_open, open_by, node_ends_open, any_ends_open}
 use Rattle.wt_isolation.specs.OpenTexts.{in_style}
 use Rattle.wt_selser.specs.GroupFaults.{is_faulty, faulty_at, is_faulty_node, has_faulty_group}
 use Rattle.wt_page_round_trip.proofs.OpenedPages.{AreOnes}
@@ -48,11 +48,13 @@ use Rattle.wt_part_laws.proofs.Recuts.{texts_same}
 use Rattle.wt_text_edit_laws.proofs.Blocks.Untangled.{open_same}
 use Rattle.wt_beside_laws.specs.Given.{GivenSign, given_glyphs, BeginsGiven, AreGivenSigns, GivesSigns}
 use Rattle.wt_beside_laws.specs.Nests.{marks, style_tree}
+use Rattle.wt_beside_laws.specs.RoundCalls.{IsUnstyledForm}
+use Rattle.wt_beside_laws.proofs.Groups.RoundNodes.{no_group}
 use Rattle.wt_beside_laws.proofs.Groups.Faults.{no_fault}
 use Rattle.wt_beside_laws.proofs.Groups.GivenTiles.{given_are, some_glyph}
 use Rattle.wt_beside_laws.proofs.StyledGroups.Blocks.{style_round}
 use Rattle.wt_called_edit_laws.specs.Settled.{settled, all_settled}
-use Rattle.wt_called_edit_laws.specs.WholeContents.{of_call, IsShutNode, AreShutParts}
+use Rattle.wt_called_edit_laws.specs.WholeContents.{of_call, IsShutNode, AreShutParts, IsShutRound, IsAnyNode}
 use Rattle.wt_called_edit_laws.proofs.BlockTexts.{block_flat}
 use Rattle.wt_called_edit_laws.proofs.SettledNodes.{settled_open, placeless_groupless, settled_groupless}
 use Rattle.wt_called_edit_laws.proofs.Whole.CallPlaces.{IsAtPlace, AtPlaces, places_split}
@@ -192,16 +194,20 @@ AreGroupsHere e (given j t ts ∷ ps) = IsGroupHere e j (t ∷ ts) × AreGroupsH
 
 -- ---- in bold and italic
 
--- a style of the page round such nodes, to this depth
+-- a node of the page, of a call, or of the page round calls; or a style of the page round such, to this depth
 abbrev pub IsPartHere : ℕ → Expanded → ItemTree → Type 0
-IsPartHere zero e t = IsOwnOrGiven t
+IsPartHere zero e t = IsAnyNode e.outer t
 IsPartHere (suc n) e t =
-    IsOwnOrGiven t
+    IsAnyNode e.outer t
     ⊎ ((bold : Bool) × (ps : List Part) × (t ≡ style_tree bold ps) × EachNode (IsPartHere n e) ps × AreGroupsHere e (call_pieces (children ps)) × AreShutParts ps)
 
+any_piece : (calls : List OuterCall) (t : ItemTree) → IsAnyNode calls t → IsPieceNode t
+any_piece calls t (inl h) = inl h
+any_piece calls t (inr r) = inr r.round
+
 part_piece : (n : ℕ) (e : Expanded) (t : ItemTree) → IsPartHere n e t → IsPieceNode t
-part_piece zero e t h = inl h
-part_piece (suc n) e t (inl h) = inl h
+part_piece zero e t h = any_piece e.outer t h
+part_piece (suc n) e t (inl h) = any_piece e.outer t h
 part_piece (suc n) e t (inr r) = inr (subst IsRoundNode (sym r.2) (style_round r.0 r.1))
 
 pub here_pieces : (n : ℕ) (e : Expanded) (ps : List Part) → EachNode (IsPartHere n e) ps → ArePieceNodes ps
@@ -232,8 +238,8 @@ all_here n e [] h = tt
 all_here n e (t ∷ ts) h = piece_here n e (first_of (tree_items t) None) t (call_pieces ts) h.0 (all_here n e ts h.1)
 
 simple_here : (n : ℕ) (e : Expanded) (t : ItemTree) → IsOwnOrGiven t → IsPartHere n e t
-simple_here zero e t h = h
-simple_here (suc n) e t h = inl h
+simple_here zero e t h = inl h
+simple_here (suc n) e t h = inl (inl h)
 
 pub own_here : (n : ℕ) (e : Expanded) (ps : List Part) → EachNode (IsPartHere n e) ps → AreOwnHere n e (call_pieces (children ps))
 own_here n e ps h = all_here n e (children ps) (children_of_each (IsPartHere n e) (λ t g. simple_here n e t g) ps h)
@@ -247,12 +253,19 @@ IsStyleHere (suc n) e t =
 no_given : (t : ItemTree) → IsOwn t ⊎ IsRoundNode t → (j : ℕ) × IsOfCall j t → ⊥
 no_given t h g = none_some g.0 (sym (first_of_call g.0 t None g.1) ∙ own_first t None h)
 
-own_case : (n : ℕ) (e : Expanded) (t : ItemTree) → IsOwn t ⊎ IsRoundNode t → IsPartHere n e t → IsOwn t ⊎ IsStyleHere n e t
-own_case zero e t h (inl o) = inl o
-own_case zero e t h (inr g) = absurd (no_given t h g)
-own_case (suc n) e t h (inl (inl o)) = inl o
-own_case (suc n) e t h (inl (inr g)) = absurd (no_given t h g)
-own_case (suc n) e t h (inr s) = inr s
+-- it is the page's own, or round calls, or such a style
+abbrev IsOwnCase : ℕ → Expanded → ItemTree → Type 0
+IsOwnCase n e t = IsOwn t ⊎ (IsShutRound e.outer t ⊎ IsStyleHere n e t)
+
+any_case : (n : ℕ) (e : Expanded) (t : ItemTree) → IsOwn t ⊎ IsRoundNode t → IsAnyNode e.outer t → IsOwnCase n e t
+any_case n e t h (inl (inl o)) = inl o
+any_case n e t h (inl (inr g)) = absurd (no_given t h g)
+any_case n e t h (inr r) = inr (inl r)
+
+own_case : (n : ℕ) (e : Expanded) (t : ItemTree) → IsOwn t ⊎ IsRoundNode t → IsPartHere n e t → IsOwnCase n e t
+own_case zero e t h k = any_case zero e t h k
+own_case (suc n) e t h (inl k) = any_case (suc n) e t h k
+own_case (suc n) e t h (inr s) = inr (inr s)
 
 -- ---- where it is in its block
 
@@ -438,6 +451,51 @@ page_shut e a n t h shut =
     let free = shut h.of_page in
     settled_open n a (cut_texts (node_in e.outer t)) ∙ ap node_ends_open (own_is e.outer t h) ∙ open_same (standing 0 [] t) ∙ free.0
 
+-- ---- a node of the page round calls: what is in it doesn't count
+
+unstyled_fine : (w : InlineForm) (b : Bool) → IsUnstyledForm w → in_style w b ≡ false
+unstyled_fine inline.Nothing b u = refl
+unstyled_fine inline.Characters b u = refl
+unstyled_fine inline.Bold b u = absurd u
+unstyled_fine inline.Italic b u = absurd u
+unstyled_fine inline.Shown b u = refl
+unstyled_fine inline.PageLink b u = refl
+unstyled_fine inline.ExternalLink b u = refl
+unstyled_fine inline.Tag b u = refl
+unstyled_fine inline.Break b u = refl
+unstyled_fine inline.AsItStood b u = refl
+
+unstyled_shut : (w : InlineForm) (bs : List ℕ) (b : Bool) → IsUnstyledForm w → ends_open bs ≡ false → open_by w bs b ≡ false
+unstyled_shut inline.Nothing bs b u e = e
+unstyled_shut inline.Characters bs b u e = refl
+unstyled_shut inline.Bold bs b u e = absurd u
+unstyled_shut inline.Italic bs b u e = absurd u
+unstyled_shut inline.Shown bs b u e = e
+unstyled_shut inline.PageLink bs b u e = e
+unstyled_shut inline.ExternalLink bs b u e = e
+unstyled_shut inline.Tag bs b u e = e
+unstyled_shut inline.Break bs b u e = e
+unstyled_shut inline.AsItStood bs b u e = e
+
+tree_fine : (e : Expanded) (t : Tree) → is_group (label t).kind ≡ false → IsUnstyledForm (edit_shape (label t).kind).inline → is_faulty_node e t ≡ false
+tree_fine e (tree l ts) g u =
+    ap (λ (b : Bool). if b then faulty_at e l.ranges ts else in_style (edit_shape l.kind).inline (has_faulty_group e ts)) g
+    ∙ unstyled_fine (edit_shape l.kind).inline (has_faulty_group e ts) u
+
+tree_shut : (t : Tree) → IsUnstyledForm (edit_shape (label t).kind).inline → ends_open (flat t) ≡ false → node_ends_open t ≡ false
+tree_shut (tree l ts) u e = unstyled_shut (edit_shape l.kind).inline (flat (tree l ts)) (any_ends_open ts) u e
+
+round_fine : (e : Expanded) (a n : ℕ) (t : ItemTree) → IsShutRound e.outer t → is_faulty_node e (settled n a (cut_texts (node_in e.outer t))) ≡ false
+round_fine e a n (inner h q ts c) r =
+    let round : IsRoundNode (inner h q ts c) = r.round in
+    tree_fine e (settled n a (cut_texts (node_in e.outer (inner h q ts c)))) (no_group h.kind round.0) r.plain
+
+round_shut : (e : Expanded) (a n : ℕ) (t : ItemTree) → IsShutRound e.outer t → node_ends_open (settled n a (cut_texts (node_in e.outer t))) ≡ false
+round_shut e a n (inner h q ts c) r =
+    let t : ItemTree = inner h q ts c in
+    let u : Tree = cut_texts (node_in e.outer t) in
+    settled_open n a u ∙ tree_shut u r.plain (ap ends_open (block_flat e.outer t (node_holds t (inr r.round))) ∙ r.shut)
+
 inside_shut : (qs : List Part) → AreShutParts qs → AreShutTrees (trees_of (call_pieces (children qs)))
 inside_shut qs h = subst AreShutTrees (sym (all_trees (children qs))) (children_shut qs h)
 
@@ -454,7 +512,10 @@ one_fine : (d : ℕ) (e : Expanded) (s : ℕ) (o : Option ℕ) (a n : ℕ) (befo
     → is_faulty_node e (settled n a (cut_texts (piece_in_page e.outer p))) ≡ false
 one_fine d e s o a n before all (own t) ps last f h k r g w shut page ones = elim (own_case d e t k w.0) [
   | inl page_node ↦ page_fine e a n t page_node shut.0
-  | inr style ↦ f o a n before t ps last h style
+  | inr other ↦ elim other [
+    | inl round ↦ round_fine e a n t round
+    | inr style ↦ f o a n before t ps last h style
+  ]
 ]
 one_fine d e s o a n before all (given j t ts) ps last f h k r g w shut page ones =
     group_fine e n a j (t ∷ ts) (call_found e.outer s o a j before all t ts ps last h k.0 r) page ones g.0
@@ -500,7 +561,10 @@ one_shut : (d : ℕ) (e : Expanded) (a n : ℕ) (p : CallPiece) (ps : List CallP
     → AreShutTrees (trees_of (p ∷ ps)) → node_ends_open (settled n a (cut_texts (piece_in_page e.outer p))) ≡ false
 one_shut d e a n (own t) ps f k g w shut = elim (own_case d e t k w.0) [
   | inl page_node ↦ page_shut e a n t page_node shut.0
-  | inr style ↦ f a n t style
+  | inr other ↦ elim other [
+    | inl round ↦ round_shut e a n t round
+    | inr style ↦ f a n t style
+  ]
 ]
 one_shut d e a n (given j t ts) ps f k g w shut =
     let here = g.0 in settled_open n a (group_of_call e.outer j (further t (forest ts))) ∙ here.shut

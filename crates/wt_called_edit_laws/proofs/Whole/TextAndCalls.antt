@@ -1,5 +1,5 @@
 -- A paragraph of texts and calls: its nodes in the page's tree are these texts, and a group for each call.
-use Rattle.std.proofs.Common.{arith, ◌≡◌, ◌≢◌, inl, inr, ℕ, suc, ◌+◌, ◌<◌, ◌==◌, Bool, true, false, Option, None, Some, List, [], ◌∷◌, ◌++◌, length, refl, sym, ap, ◌∙◌, subst}
+use Rattle.std.proofs.Common.{arith, ◌≡◌, ◌≢◌, inl, inr, ℕ, ◌+◌, ◌<◌, ◌==◌, Bool, true, false, Option, None, Some, List, [], ◌∷◌, ◌++◌, length, refl, sym, ap, ◌∙◌, subst}
 use Rattle.std.specs.Prelude.{slice_get}
 use Rattle.std.proofs.lemmas.Bool.Decides.{nat_tests}
 use Rattle.wt_tree.specs.declared.kind.Kind.TheVariants as kind
@@ -32,7 +32,6 @@ use Rattle.wt_part_laws.specs.CallPieces.{CallPiece, own, given, group_of_call, 
 use Rattle.wt_part_laws.proofs.CallPieces.{as_pieces}
 use Rattle.wt_part_laws.specs.Expanded.{part_items, calls_in}
 use Rattle.wt_part_laws.specs.HeldCalls.{block_in}
-use Rattle.wt_part_laws.specs.MovedCalls.{IsMoved, AreMoved}
 use Rattle.wt_part_laws.proofs.HeldBlocks.{given_block_is}
 use Rattle.wt_text_edit_laws.specs.Contents.{content_parts_of}
 use Rattle.wt_text_edit_laws.specs.TextBlocks.{a_paragraph}
@@ -53,6 +52,7 @@ use Rattle.wt_called_edit_laws.proofs.Beside.Counts.{block_bare, settled_counts}
 use Rattle.wt_called_edit_laws.proofs.Whole.Blocks.{nodes_are}
 use Rattle.wt_called_edit_laws.proofs.Whole.Contents.{has_call, group_source}
 use Rattle.wt_called_edit_laws.proofs.Whole.PartsIn.{simple_parts}
+use Rattle.wt_called_edit_laws.proofs.Whole.SourcesAt.{sources_split, sources_before}
 use Rattle.wt_called_edit_laws.proofs.Whole.Pieced.{paragraph_round, as_written}
 use Rattle.wt_called_edit_laws.proofs.Written.NewContents.{calls_of}
 
@@ -150,13 +150,12 @@ nodes_own pages calls i m a (b ∷ bs) n h =
 
 text_child : (pages : Pages) (calls : List OuterCall) (m a : ℕ) (xs : List Item) → IsChildBeside pages (settled m a (text_tree calls xs))
 unfolding label_at
-text_child pages calls m a xs = record { inline = refl; free = inr (refl, tt); shows = λ f. absurd f }
+text_child pages calls m a xs = record { inline = refl; shows = λ f. absurd f }
 
 group_child : (pages : Pages) (calls : List OuterCall) (i m a : ℕ) (b : List ℕ) → IsGroupCall pages b → source_of_call (slice_get calls i) ≡ b
     → IsChildBeside pages (settled m a (group_tree calls i (children (line_parts (part_items pages i b)))))
 group_child pages calls i m a b w e = record {
   inline = refl;
-  free = inl refl;
   shows = λ f j rest.
       ap (λ (q : List ℕ). parts_shown_at 0 [] (line_parts (part_items pages j q)) rest) e
       ∙ w.alike j i rest
@@ -164,16 +163,6 @@ group_child pages calls i m a b w e = record {
 }
 
 -- the calls of the pieces
-sources_split : (calls : List OuterCall) (k : ℕ) (cs ds : List OuterCall) → AreSourcesAt calls k (cs ++ ds) → AreSourcesAt calls k cs × AreSourcesAt calls (k + length cs) ds
-sources_split calls k [] ds h = let e : k ≡ k + 0 = omega arith in (tt, subst (λ (n : ℕ). AreSourcesAt calls n ds) e h)
-sources_split calls k (c ∷ cs) ds h =
-    let r = sources_split calls _ cs ds h.1 in
-    let n : ℕ = length cs in
-    let e = one_more k n in ((h.0, r.0), subst (λ (x : ℕ). AreSourcesAt calls x ds) e r.1)
-  where
-    one_more : (k n : ℕ) → suc k + n ≡ k + suc n
-    one_more k n = omega arith
-
 first_source : (pages : Pages) (calls : List OuterCall) (i : ℕ) (b : List ℕ) → IsGroupCall pages b → AreSourcesAt calls i (expanded_page pages b).outer
     → source_of_call (slice_get calls i) ≡ b
 first_source pages calls i b w s =
@@ -343,23 +332,14 @@ pieced pages q h =
       among = some.are.0;
       read = h.read;
       lines = h.lines;
-      texts = λ i.
-          simple_parts (part_items pages i q) (content_parts_of a_paragraph (part_items pages i q)) (h.texts i);
+      texts = λ calls i a.
+          simple_parts calls (part_items pages i q) (content_parts_of a_paragraph (part_items pages i q)) (h.texts i);
       groups = h.groups;
       shut = h.shut;
       some = h.some;
     }
 
 -- ---- the block
-
-pub sources_before : (calls : List OuterCall) (k : ℕ) (cs ds : List OuterCall) → AreMoved cs ds → AreSourcesAt calls k ds → AreSourcesAt calls k cs
-sources_before calls k [] [] m h = tt
-sources_before calls k [] (d ∷ ds) m h = absurd m
-sources_before calls k (c ∷ cs) [] m h = absurd m
-sources_before calls k (c ∷ cs) (d ∷ ds) m h =
-    let o : IsMoved c d = m.0 in
-    let same : d.source ≡ c.source = ap (λ (x : OuterCall). x.source) o.now ∙ sym (ap (λ (x : OuterCall). x.source) o.was) in
-    (h.0 ∙ same, sources_before calls (suc k) cs ds m.1 h.1)
 
 pub same_nodes : (t : Tree) → children_of t ≡ nodes_in t
 same_nodes (tree l ts) = refl

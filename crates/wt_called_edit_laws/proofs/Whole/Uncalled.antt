@@ -18,7 +18,7 @@ use Rattle.wt_annotated.specs.Seams.{first_of}
 use Rattle.wt_checks.specs.Kept.{children as nodes_in}
 use Rattle.wt_expand.specs.PageItems.{page_items}
 use Rattle.wt_expand.specs.Work.{Pages}
-use Rattle.wt_part_laws.specs.CallPieces.{AreItemsOf, IsOfCall, IsOwnOrGiven, CallPiece, own, given, given_before, piece_before, call_pieces, piece_in_page, pieces_in_page}
+use Rattle.wt_part_laws.specs.CallPieces.{AreItemsOf, IsOfCall, IsOwnOrGiven, IsRoundNode, CallPiece, own, given, given_before, piece_before, call_pieces, piece_in_page, pieces_in_page}
 use Rattle.wt_part_laws.specs.Expanded.{part_items}
 use Rattle.wt_part_laws.specs.HeldCalls.{block_in, HoldsItsCalls, IsRoundGiven}
 use Rattle.wt_part_laws.specs.Placeless.{placeless}
@@ -36,13 +36,16 @@ use Rattle.wt_beside_laws.proofs.Made.OldBlocks.{no_group}
 use Rattle.wt_called_edit_laws.specs.CalledContents.{tree_round}
 use Rattle.wt_called_edit_laws.specs.Settled.{settled, all_settled}
 use Rattle.wt_called_edit_laws.specs.Uncalled.{SomeNoGroup}
-use Rattle.wt_called_edit_laws.specs.WholeContents.{IsShutNode, IsPartIn, HoldsGroups, IsWholeIn}
+use Rattle.wt_called_edit_laws.specs.WholeContents.{IsShutNode, IsAnyNode, IsPartIn, ArePartsIn, HoldsGroups, IsWholeIn}
 use Rattle.wt_called_edit_laws.specs.WrittenAnew.{HoldsAnywhere}
 use Rattle.wt_called_edit_laws.proofs.CallingMade.{calm_block}
 use Rattle.wt_called_edit_laws.proofs.Cells.ContentItems.{tree_is}
 use Rattle.wt_called_edit_laws.proofs.Whole.Blocks.{nodes_are}
 use Rattle.wt_called_edit_laws.proofs.Whole.PartsIn.{parts_pieces}
 use Rattle.wt_called_edit_laws.proofs.Whole.Pieces.{AreShutTrees, children_shut}
+use Rattle.wt_called_edit_laws.proofs.Whole.SourcesAt.{sources_somewhere}
+use Rattle.wt_beside_laws.proofs.Groups.RoundNodes.{no_group as no_group_kind}
+use Rattle.wt_expand.specs.PageCalls.{expanded_page}
 
 -- ---- what is the page's is none
 
@@ -93,14 +96,21 @@ style_kind : (bold : Bool) (ps : List Part) → IsOwnKind (style_tree bold ps)
 style_kind true ps = refl
 style_kind false ps = refl
 
-part_kind : (n : ℕ) (xs : List Item) (t : ItemTree) → IsShutNode t → IsPartIn n xs t → OwnKind t
-part_kind zero xs t s h = simple_kind t s h
-part_kind (suc n) xs t s (inl h) = simple_kind t s h
-part_kind (suc n) xs t s (inr r) = λ e. subst IsOwnKind (sym r.2) (style_kind r.0 r.1)
+round_kind : (t : ItemTree) → IsRoundNode t → IsOwnKind t
+round_kind (inner h q ts c) r = no_group_kind h.kind r.0
 
-part_kinds : (n : ℕ) (xs : List Item) (ts : List ItemTree) → AreShutTrees ts → AllNodes (IsPartIn n xs) ts → AllNodes OwnKind ts
-part_kinds n xs [] s h = tt
-part_kinds n xs (t ∷ ts) s h = (part_kind n xs t s.0 h.0, part_kinds n xs ts s.1 h.1)
+any_kind : (calls : List OuterCall) (t : ItemTree) → IsShutNode t → IsAnyNode calls t → OwnKind t
+any_kind calls t s (inl h) = simple_kind t s h
+any_kind calls t s (inr r) = λ e. round_kind t r.round
+
+part_kind : (n : ℕ) (calls : List OuterCall) (xs : List Item) (t : ItemTree) → IsShutNode t → IsPartIn n calls xs t → OwnKind t
+part_kind zero calls xs t s h = any_kind calls t s h
+part_kind (suc n) calls xs t s (inl h) = any_kind calls t s h
+part_kind (suc n) calls xs t s (inr r) = λ e. subst IsOwnKind (sym r.2) (style_kind r.0 r.1)
+
+part_kinds : (n : ℕ) (calls : List OuterCall) (xs : List Item) (ts : List ItemTree) → AreShutTrees ts → AllNodes (IsPartIn n calls xs) ts → AllNodes OwnKind ts
+part_kinds n calls xs [] s h = tt
+part_kinds n calls xs (t ∷ ts) s h = (part_kind n calls xs t s.0 h.0, part_kinds n calls xs ts s.1 h.1)
 
 -- ---- some piece is the page's
 
@@ -153,11 +163,13 @@ holds_uncalled pages calls n s i q hold whole =
     let ps : List Part = content_parts_of a_paragraph xs in
     let ts : List ItemTree = children ps in
     let us : List CallPiece = call_pieces ts in
+    let there = sources_somewhere i (expanded_page pages q).outer in
+    let each : ArePartsIn there.0 xs ps = whole.parts there.0 i there.1 in
     let r : IsRoundGiven (plain kind.Para) [] ps [] = record {
       no_leaf = refl;
       own_opening = refl;
       own_closing = refl;
-      parts = parts_pieces 2 xs ps (whole.parts i);
+      parts = parts_pieces 2 there.0 xs ps each;
       some = hold.some;
     } in
     let are : ArePieces us = all_pieces ts (children_given ps r.parts) in
@@ -166,7 +178,7 @@ holds_uncalled pages calls n s i q hold whole =
     (ap (λ (vs : List ItemTree). list_any is_page (held_by_all (forest vs))) (all_trees ts)
     ∙ ap (list_any is_page) (sym (append-nil (held_by_all (forest ts)))) ∙ hold.some) in
     let kinds : OwnKinds us =
-    own_kinds ts (part_kinds 2 xs ts (children_shut ps (whole.shut i)) (children_of_each (IsPartIn 2 xs) (λ t g. inl g) ps (whole.parts i))) in
+    own_kinds ts (part_kinds 2 there.0 xs ts (children_shut ps (whole.shut i)) (children_of_each (IsPartIn 2 there.0 xs) (λ t g. inl (inl g)) ps each)) in
     subst SomeNoGroup
     (sym (ap (λ (u : Tree). nodes_in (settled n s (cut_texts u))) (given_block_is calls (plain kind.Para) [] ps [] r) ∙ nodes_are calls n s (plain kind.Para) [] ps [] refl refl))
     (some_here calls us (next_after kind.Para n) (s + 0) some kinds)

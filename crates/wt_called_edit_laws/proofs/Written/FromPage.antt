@@ -7,7 +7,7 @@ use Rattle.wt_expand.specs.Work.{Pages}
 use Rattle.wt_tiles.specs.Glyphs.{glyph_of}
 use Rattle.wt_part_laws.specs.Expanded.{part_items}
 use Rattle.wt_text_edit_laws.specs.TextBlocks.{a_paragraph}
-use Rattle.wt_beside_laws.specs.Called.{owns_in, AllMeetWith, StaysAsItIs, IsOfFolder, AreOfFolder, HasUncalled}
+use Rattle.wt_beside_laws.specs.Called.{owns_in, AllMeetWith, IsOwnNode, StaysAsItIs, StaysRound, IsOfFolder, AreOfFolder, HasUncalled}
 use Rattle.wt_beside_laws.specs.Cuts.{own_glyphs}
 use Rattle.wt_beside_laws.specs.FlatBlocks.{AreSealed}
 use Rattle.wt_beside_laws.specs.Lines.{AreCharacters}
@@ -82,8 +82,11 @@ gives_so pages i t h = elim (folder_case t.role pages t h) [
   | inl k ↦
       let stays : StaysAsItIs pages t = k.0 in
       let is : map glyph_of (part_items pages i t.source) ≡ own_glyphs t = ap (map glyph_of) (stays.items i) in
-      inl (subst (IsNode t.role) (sym is) stays.node, is)
-  | inr k ↦ inr (ap is_group k.1)
+      inl (subst (IsNode t.role) (sym is) stays.node)
+  | inr e ↦ elim e [
+    | inl k ↦ let stays : StaysRound pages t = k.0 in let own : IsOwnNode t (part_items pages i t.source) = stays.node i in inl own.node
+    | inr k ↦ inr (ap is_group k.1)
+  ]
 ]
 
 each_so : (pages : Pages) (i : ℕ) (signs : List ContentSign) → ArePageThings pages (things signs) → EachIsSuch signs (owns_in pages i signs)

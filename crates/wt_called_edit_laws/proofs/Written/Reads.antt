@@ -33,7 +33,7 @@ call_begins source rest c =
 pub call_same : (source : List ℕ) → IsCallSource source → node_items source ≡ page_items source
 call_same source c = node_same source (subst BeginsUncommented (append-nil source) (call_begins source [] c))
 
-call_in : (source : List ℕ) → IsCallSource source → EndsOutward source → (rest : List ℕ) (xs : List Item) → BeginsUnclosed rest → InLine rest xs
+pub call_in : (source : List ℕ) → IsCallSource source → EndsOutward source → (rest : List ℕ) (xs : List Item) → BeginsUnclosed rest → InLine rest xs
     → InLine (source ++ rest) (node_items source ++ xs)
 call_in source c e rest xs u r =
     subst (λ (ys : List Item). InLine (source ++ rest) (ys ++ xs)) (sym (call_same source c))

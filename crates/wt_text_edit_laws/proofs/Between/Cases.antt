@@ -1,5 +1,5 @@
 -- Worked cases of what may come before a text and after it, by computing.
-use Rattle.std.proofs.Common.{inl, inr, refl}
+use Rattle.std.proofs.Common.{arith, refl}
 use Rattle.std.specs.Prelude.{[], codes}
 use Rattle.wt_span.specs.Comments.{comment_len, comment_line_len}
 use Rattle.wt_span.specs.Entities.{named_entity, entity_names, decimal_entity, hex_entity, entity_at}
@@ -154,22 +154,13 @@ paired : CallsNothing (page_items (codes "{{ a }}")) → ⊥
 unfolding page_items comment_len comment_line_len named_entity entity_names decimal_entity hex_entity entity_at sign_word form_at closed words tag_after opening_tag closing_tag with_inside is_extension raw_len include_at
 paired h = h
 
--- ---- the sign of a table's end or a rule
+-- ---- the sign of a table's end or a rule, and the end of a call
 
 table_end : AreSigned (codes "{|\n|a\n\t|}")
-table_end = record {
-  front = codes "{|\n|a\n";
-  sign = codes "\t|}";
-  is = refl;
-  ended = refl;
-  is_sign = record { blanks = codes "\t"; own = codes "|}"; is = refl; are_blanks = (refl, tt); bare = inl refl };
-}
+table_end = record { some = omega arith; sign = refl; unopened = refl }
 
 rule : AreSigned (codes "<!-- c -->-----")
-rule = record {
-  front = codes "<!-- c -->";
-  sign = codes "-----";
-  is = refl;
-  ended = refl;
-  is_sign = record { blanks = []; own = codes "-----"; is = refl; are_blanks = tt; bare = inr (4, refl) };
-}
+rule = record { some = omega arith; sign = refl; unopened = refl }
+
+call : AreSigned (codes "a\n{{Box|<b>x</b>|y=&amp;}}")
+call = record { some = omega arith; sign = refl; unopened = refl }

@@ -30,6 +30,7 @@ use Rattle.wt_text_edit_laws.proofs.Between.NoCalls.{calm_expanded, calm_unrefus
 use Rattle.wt_text_edit_laws.proofs.Paragraphs.Texts.{EndsHere, here_begins, nothing_is, one_line, line_reads}
 use Rattle.wt_text_edit_laws.proofs.Paragraphs.SeenLines.{lines_seen}
 use Rattle.wt_text_edit_laws.proofs.Cuts.Seen.{shown_cuts, line_shown, seen_begins}
+use Rattle.wt_text_edit_laws.proofs.Blocks.SignBraces.{heading_unclosed}
 use Rattle.wt_text_edit_laws.proofs.Blocks.SignReading.{signed_reads}
 use Rattle.wt_text_edit_laws.proofs.Texts.TypedItems.{ItemsOf, items_cut, items_are}
 use Rattle.wt_text_edit_laws.specs.TypedHeadings.{Sides, AreBlanks, AreSides, equals, opening, closing, closing_items, heading_line, EndsLine}
@@ -341,11 +342,11 @@ in_front : (bs rest : List ℕ) (xs : List Item) → AreEnded bs ⊎ (AreSigned 
 in_front bs rest xs (inl l) h r = before_reads bs rest xs l h r.shown (record { items = r.items (after_all (lexer Page) false bs) })
 in_front bs rest xs (inr l) h r = signed_reads bs rest xs l.0 l.1 h (record { items = r.items false })
 
--- a paragraph behind a sign, with what follows it
+-- a block behind a sign, with what follows it
 on_sign : (k : TextBlock) (q rest : List ℕ) → IsOnSign k q → EndsHere rest → BeginsUnclosed (source_of k q ++ rest)
 on_sign a_paragraph [] rest h e = end_unclosed rest e
 on_sign a_paragraph (b ∷ q) rest h e = h
-on_sign (a_heading s) q rest h e = absurd h
+on_sign (a_heading s) q rest h e = heading_unclosed s (q ++ closing s) rest h
 
 led_front : (s : BlockSpot) (rest : List ℕ) → IsLedTo s.before s.block s.text → EndsHere rest
     → AreEnded s.before ⊎ (AreSigned s.before × BeginsUnclosed (source_of s.block s.text ++ rest))

@@ -109,7 +109,7 @@ AreUnclosedOver (s ∷ ss) (r ∷ rs) = ((r.text ≡ s.text) ⊎ BeginsUnclosed 
 pub sign_again : (k : TextBlock) (was now : List ℕ) → (now ≡ was) ⊎ BeginsUnclosed now → IsOnSign k was → IsOnSign k now
 sign_again k was now (inl e) h = subst (IsOnSign k) (sym e) h
 sign_again a_paragraph was now (inr u) h = u
-sign_again (a_heading s) was now (inr u) h = absurd h
+sign_again (a_heading s) was now (inr u) h = h
 
 pub led_again : (s r : BlockSpot) → IsLedTo s.before s.block s.text → r.before ≡ s.before → r.block ≡ s.block → (r.text ≡ s.text) ⊎ BeginsUnclosed r.text
     → IsLedTo r.before r.block r.text

@@ -1,6 +1,6 @@
--- Braces behind the sign of a table's end or a rule, and what begins with none that closes.
-use Rattle.std.proofs.Common.{arith, ◌≡◌, ℕ, zero, suc, ◌+◌, ◌==◌, Bool, true, false, Option, Some, None, List, [], ◌∷◌, ◌++◌, take, map, nat_lt, inl, inr, refl, sym, ap, ◌∙◌, subst, append_assoc}
-use Rattle.std.specs.Prelude.{◌&&◌, not, nat_eq, codes, replicate, if◌then◌else◌}
+-- Braces behind the sign of a table's end or a rule or the end of a call, and what begins with none that closes.
+use Rattle.std.proofs.Common.{arith, ◌≡◌, ℕ, zero, suc, ◌+◌, ◌≤◌, ◌==◌, Bool, true, false, Option, Some, None, List, [], ◌∷◌, ◌++◌, take, map, nat_lt, refl, sym, ap, ◌∙◌, subst, append_assoc}
+use Rattle.std.specs.Prelude.{◌&&◌, not, nat_eq, codes, if◌then◌else◌}
 use Rattle.std.specs.List.{prefix_len}
 use Rattle.std.specs.Option.{option_or}
 use Rattle.std.proofs.lemmas.Bool.{eqb-true}
@@ -20,11 +20,13 @@ use Rattle.wt_expand.proofs.PageLaws.{page_sources}
 use Rattle.wt_text_edit_laws.specs.LonePages.{page_chars}
 use Rattle.wt_text_edit_laws.specs.NoCalls.{Brace, opening, closing, braces, is_brace, braces_of}
 use Rattle.wt_text_edit_laws.specs.ReadContents.{BeginsUnclosed}
-use Rattle.wt_text_edit_laws.specs.SignParts.{IsBareSign, IsSign, AreSigned}
+use Rattle.wt_text_edit_laws.specs.SignParts.{AreSigned}
 use Rattle.wt_text_edit_laws.specs.TextBetween.{EndsBy}
+use Rattle.wt_text_edit_laws.specs.TypedHeadings.{Sides, equals, opening as before_text}
 use Rattle.wt_text_edit_laws.proofs.Between.Fronts.{first_items, items_from, first_from, byte_from, form_from}
 use Rattle.wt_text_edit_laws.proofs.Between.LessBraces.{BeginsUnbraced}
 use Rattle.wt_text_edit_laws.proofs.Between.LineComments.{ends_behind}
+use Rattle.wt_text_edit_laws.proofs.Blocks.SignReading.{IsSplit, each_end, split}
 
 -- ---- a `}` is read as itself
 
@@ -83,6 +85,14 @@ items_unclosed (b ∷ q) h = by (b == 125) refl
         let no : is_brace 125 ≡ false = subst (λ (ys : List Item). BeginsUnbraced (map sign ys)) items h in
         absurd (cc)
 
+-- a heading begins with its `=`
+pub heading_unclosed : (s : Sides) (bs rest : List ℕ) → 1 ≤ s.level → BeginsUnclosed ((before_text s ++ bs) ++ rest)
+heading_unclosed s bs rest some = by s.level some
+  where
+    by : (n : ℕ) → 1 ≤ n → BeginsUnclosed (((equals n ++ s.lead) ++ bs) ++ rest)
+    by zero le = absurd (omega (arith, le))
+    by (suc n) le = refl
+
 -- ---- two parts
 
 -- the last sign isn't `{`, and the first isn't `}`
@@ -136,30 +146,22 @@ ends_joined test [] y ys h = h
 ends_joined test (x ∷ []) y ys h = h
 ends_joined test (x ∷ z ∷ xs) y ys h = ends_joined test (z ∷ xs) y ys h
 
-run_ends : (test : ℕ → Bool) → test 45 ≡ true → (n : ℕ) → EndsBy test (replicate (suc n) 45)
-run_ends test e zero = e
-run_ends test e (suc n) = run_ends test e n
-
-bare_ends : (test : ℕ → Bool) → test 125 ≡ true → test 45 ≡ true → (xs own : List ℕ) → IsBareSign own → EndsBy test (xs ++ own)
-bare_ends test e f xs own (inl is) = subst (λ (bs : List ℕ). EndsBy test (xs ++ bs)) (sym is) (ends_joined test xs 124 (125 ∷ []) e)
-bare_ends test e f xs own (inr (n, is)) = subst (λ (bs : List ℕ). EndsBy test (xs ++ bs)) (sym is) (ends_joined test xs 45 (replicate n 45) (run_ends test f n))
-
 -- its last byte is a `}` or a `-`
 pub signed_by : (test : ℕ → Bool) → test 125 ≡ true → test 45 ≡ true → (bs : List ℕ) → AreSigned bs → EndsBy test bs
 signed_by test e f bs h =
-    let s : IsSign h.sign = h.is_sign in
-    let is : bs ≡ (h.front ++ s.blanks) ++ s.own = h.is ∙ ap (λ (ds : List ℕ). h.front ++ ds) s.is ∙ sym (append_assoc h.front s.blanks s.own) in
-    subst (EndsBy test) (sym is) (bare_ends test e f (h.front ++ s.blanks) s.own s.bare)
+    let g : IsSplit bs = split bs h in
+    subst (EndsBy test) (sym (g.is ∙ sym (append_assoc g.front g.line (g.last ∷ []))))
+    (ends_joined test (g.front ++ g.line) g.last [] (each_end (λ (c : ℕ). test c ≡ true) e f g.last g.sign))
 
 not_false : (v : Bool) → not v ≡ true → v ≡ false
 not_false false e = refl
 not_false true e = absurd (cc)
 
-ends_rest : (test : ℕ → Bool) (us vs : List ℕ) → EndsBy test (us ++ vs) → EndsBy test vs
+pub ends_rest : (test : ℕ → Bool) (us vs : List ℕ) → EndsBy test (us ++ vs) → EndsBy test vs
 ends_rest test [] vs h = h
 ends_rest test (u ∷ us) vs h = ends_rest test us vs (ends_behind test u (us ++ vs) h)
 
-whole_other : (f : ItemForm) (k : ℕ) → (256 == k) ≡ false → (257 == k) ≡ false → ((if is_mark_form f then 257 else 256) == k) ≡ false
+pub whole_other : (f : ItemForm) (k : ℕ) → (256 == k) ≡ false → (257 == k) ≡ false → ((if is_mark_form f then 257 else 256) == k) ≡ false
 whole_other f k a b = by (is_mark_form f)
   where
     by : (v : Bool) → ((if v then 257 else 256) == k) ≡ false

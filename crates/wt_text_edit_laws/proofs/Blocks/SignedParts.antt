@@ -1,29 +1,60 @@
--- What holds of a part that ends with lines, comments or tags holds of one with the sign of a table's end or a rule behind these.
-use Rattle.std.proofs.Common.{arith, ◌≡◌, ℕ, zero, suc, ◌+◌, ◌-◌, ◌==◌, Bool, true, false, List, [], ◌∷◌, ◌++◌, length, drop, nat_lt, cond, refl, sym, ap, ◌∙◌, subst, append_assoc, append-nil, length-append}
-use Rattle.std.specs.Prelude.{◌&&◌, not, slice_index}
+-- What holds of a part that ends with lines, comments or tags holds of one with the sign of a table's end or a rule, or the end of a call, behind these.
+use Rattle.std.proofs.Common.{arith, ◌≡◌, ℕ, zero, suc, ◌+◌, ◌-◌, ◌==◌, Bool, true, false, List, [], ◌∷◌, ◌++◌, length, drop, nat_lt, cond, refl, sym, ap, ◌∙◌, subst, append_assoc, append-nil, length-append, inl, inr}
+use Rattle.std.specs.Prelude.{◌&&◌, ◌||◌, not, slice_index}
 use Rattle.std.specs.Char.{is_ascii_alphabetic}
 use Rattle.std.specs.List.{prefix_len}
 use Rattle.std.proofs.lemmas.Bool.Decides.{nat_tests}
 use Rattle.std.proofs.lemmas.List.{reverse-append}
 use Rattle.wt_span.specs.Bytes.{is_break}
 use Rattle.wt_isolation.specs.OpenTags.{is_stop, bare_len, ends_open}
-use Rattle.wt_text_edit_laws.specs.SignParts.{IsSign, AreSigned}
+use Rattle.wt_text_edit_laws.specs.SignParts.{is_sign_end, ends_unopened, AreSigned, IsLedTo}
 use Rattle.wt_text_edit_laws.specs.TextBetween.{is_end, AreEnded, HasEndsBefore}
+use Rattle.wt_text_edit_laws.specs.TextBlocks.{TextBlock}
 use Rattle.wt_text_edit_laws.proofs.Between.ClosingTags.{Unclosed, unclosed_other, unclosed_untagged, ClosesNoMore, KeepsClosings, ends_other_by}
 use Rattle.wt_text_edit_laws.proofs.Between.LineComments.{ends_behind}
 use Rattle.wt_text_edit_laws.proofs.Between.LineForms.{get_behind}
 use Rattle.wt_text_edit_laws.proofs.Between.LineWords.{lacks}
-use Rattle.wt_text_edit_laws.proofs.Blocks.SignReading.{sign_lacks}
+use Rattle.wt_text_edit_laws.proofs.Blocks.SignBraces.{ends_rest}
+use Rattle.wt_text_edit_laws.proofs.Blocks.SignReading.{IsLine, IsSplit, sign_line, split, and_rest, line_unopened, line_unbroken}
 use Rattle.wt_text_edit_laws.proofs.Paragraphs.ClearLines.{end_is}
+
+-- ---- its end
+
+-- what ends so ends so, whatever is before it
+behind_both : (v : Bool) (ps bs : List ℕ) → ends_unopened v (ps ++ bs) ≡ ends_unopened (ends_unopened v ps) bs
+behind_both v [] bs = refl
+behind_both v (p ∷ ps) bs = behind_both (is_end p || (v && not (p == 60))) ps bs
+
+more_unopened : (bs : List ℕ) → ends_unopened false bs ≡ true → ends_unopened true bs ≡ true
+more_unopened [] h = absurd (cc)
+more_unopened (b ∷ bs) h = by (is_end b) (not (b == 60)) h (λ g. more_unopened bs g)
+  where
+    by : (u v : Bool) → ends_unopened (u || (false && v)) bs ≡ true → (ends_unopened false bs ≡ true → ends_unopened true bs ≡ true)
+        → ends_unopened (u || (true && v)) bs ≡ true
+    by true v g more = g
+    by false true g more = more g
+    by false false g more = g
+
+unopened_by : (v : Bool) (bs : List ℕ) → ends_unopened v bs ≡ true → ends_unopened true bs ≡ true
+unopened_by true bs h = h
+unopened_by false bs h = more_unopened bs h
+
+pub led_rest : (ps bs : List ℕ) (k : TextBlock) (q : List ℕ) → IsLedTo (ps ++ bs) k q → IsLedTo bs k q
+led_rest ps bs k q (inl l) = inl (ends_rest is_end ps bs l)
+led_rest ps [] k q (inr l) = inl tt
+led_rest ps (b ∷ bs) k q (inr l) =
+    let s : AreSigned (ps ++ b ∷ bs) = l.0 in
+    let unopened : ends_unopened true (b ∷ bs) ≡ true = unopened_by (ends_unopened true ps) (b ∷ bs) (sym (behind_both true ps (b ∷ bs)) ∙ s.unopened) in
+    inr (record { some = omega arith; sign = ends_rest is_sign_end ps (b ∷ bs) s.sign; unopened = unopened }, l.1)
 
 -- ---- closing tags
 
-unopened : (s : List ℕ) → IsSign s → lacks (λ b. b == 60) s ≡ true
-unopened s h = sign_lacks (λ b. b == 60) refl refl refl refl s h
+-- the line with the sign
+abbrev line_of : (bs : List ℕ) → IsSplit bs → List ℕ
+line_of bs h = h.line ++ h.last ∷ []
 
-and_rest : (u v : Bool) → (u && v) ≡ true → v ≡ true
-and_rest true v e = e
-and_rest false v e = absurd (cc)
+unopened : (bs : List ℕ) (h : IsSplit bs) → lacks (λ b. b == 60) (line_of bs h) ≡ true
+unopened bs h = let l : IsLine (line_of bs h) = sign_line bs h in line_unopened (line_of bs h) l.bare
 
 lacks_dropped : (test : ℕ → Bool) (n : ℕ) (s : List ℕ) → lacks test s ≡ true → lacks test (drop n s) ≡ true
 lacks_dropped test zero [] h = h
@@ -50,12 +81,13 @@ front_keeps [] s l h (suc n) name rest other u g = unclosed_untagged name (drop 
 front_keeps (b ∷ front) s l h (suc n) name rest other u g = front_keeps front s (ends_behind is_end b front l) h n name rest other u g
 
 pub signed_keeps : (bs : List ℕ) → AreSigned bs → KeepsClosings bs
-signed_keeps bs h = subst KeepsClosings (sym h.is) (front_keeps h.front h.sign h.ended (unopened h.sign h.is_sign))
+signed_keeps bs h = let g : IsSplit bs = split bs h in subst KeepsClosings (sym g.is) (front_keeps g.front (line_of bs g) g.ended (unopened bs g))
 
 pub signed_unclosed : (name bs rest other : List ℕ) → AreSigned bs → Unclosed name (bs ++ rest) → Unclosed name other → Unclosed name (bs ++ other)
 signed_unclosed name bs rest other h u g =
-    subst (λ (q : List ℕ). Unclosed name (q ++ other)) (sym h.is)
-    (signed_other name h.front h.sign rest other h.ended (unopened h.sign h.is_sign) (subst (λ (q : List ℕ). Unclosed name (q ++ rest)) h.is u) g)
+    let s : IsSplit bs = split bs h in
+    subst (λ (q : List ℕ). Unclosed name (q ++ other)) (sym s.is)
+    (signed_other name s.front (line_of bs s) rest other s.ended (unopened bs s) (subst (λ (q : List ℕ). Unclosed name (q ++ rest)) s.is u) g)
 
 pub signed_ends : (rest other bs : List ℕ) → AreSigned bs → ClosesNoMore rest other → HasEndsBefore rest bs → HasEndsBefore other bs
 signed_ends rest other bs h c e = ends_other_by rest other false 0 bs (signed_keeps bs h) c e
@@ -109,8 +141,8 @@ behind_end zs e s end h =
     ap (λ (q : List ℕ). slice_index q (length (ws ++ s) - (length s + 1))) (append_assoc zs (e ∷ []) s) ∙ ap (slice_index (zs ++ e ∷ s)) i ∙ get_behind zs (e ∷ s) 0 in
     closed_at (ws ++ s) (length s) n (ap (λ (c : ℕ). c == 60) at ∙ end_is (λ (c : ℕ). (c == 60) ≡ false) refl refl e end)
 
-unstopped : (s : List ℕ) → IsSign s → lacks is_stop s ≡ true
-unstopped s h = sign_lacks is_stop refl refl refl refl s h
+unstopped : (bs : List ℕ) (h : IsSplit bs) → lacks is_stop (line_of bs h) ≡ true
+unstopped bs h = let l : IsLine (line_of bs h) = sign_line bs h in l.bare
 
 signed_line : (zs : List ℕ) (b : ℕ) (front s : List ℕ) → AreEnded (b ∷ front) → lacks is_stop s ≡ true → ends_open (zs ++ ((b ∷ front) ++ s)) ≡ false
 signed_line zs b [] s l h = ap ends_open (sym (append_assoc zs (b ∷ []) s)) ∙ behind_end zs b s l h
@@ -133,20 +165,28 @@ alone_closed s h =
 
 -- at the page's start
 pub signed_first : (bs : List ℕ) → AreSigned bs → ends_open bs ≡ false
-signed_first bs h = ap ends_open h.is ∙ by h.front h.ended
+signed_first bs h = ap ends_open g.is ∙ by g.front g.ended
   where
-    by : (front : List ℕ) → AreEnded front → ends_open (front ++ h.sign) ≡ false
-    by [] l = alone_closed h.sign (unstopped h.sign h.is_sign)
-    by (b ∷ front) l = signed_line [] b front h.sign l (unstopped h.sign h.is_sign)
+    g : IsSplit bs
+    g = split bs h
+
+    by : (front : List ℕ) → AreEnded front → ends_open (front ++ line_of bs g) ≡ false
+    by [] l = alone_closed (line_of bs g) (unstopped bs g)
+    by (b ∷ front) l = signed_line [] b front (line_of bs g) l (unstopped bs g)
 
 -- behind what comes before it, where it begins with a line break
 pub signed_clear : (zs : List ℕ) (b : ℕ) (bs : List ℕ) → AreSigned (b ∷ bs) → b ≡ 10 → ends_open (zs ++ b ∷ bs) ≡ false
-signed_clear zs b bs h e = by h.front h.is h.ended
+signed_clear zs b bs h e = by g.front g.is g.ended
   where
-    by : (front : List ℕ) → ◌≡◌ {A = List ℕ} (b ∷ bs) (front ++ h.sign) → AreEnded front → ends_open (zs ++ b ∷ bs) ≡ false
+    g : IsSplit (b ∷ bs)
+    g = split (b ∷ bs) h
+
+    line : List ℕ
+    line = line_of (b ∷ bs) g
+
+    by : (front : List ℕ) → ◌≡◌ {A = List ℕ} (b ∷ bs) (front ++ line) → AreEnded front → ends_open (zs ++ b ∷ bs) ≡ false
     by [] is l =
-        let lack : lacks is_break (b ∷ bs) ≡ true =
-        subst (λ (q : List ℕ). lacks is_break q ≡ true) (sym is) (sign_lacks is_break refl refl refl refl h.sign h.is_sign) in
+        let lack : lacks is_break (b ∷ bs) ≡ true = subst (λ (q : List ℕ). lacks is_break q ≡ true) (sym is) (line_unbroken line (unstopped (b ∷ bs) g)) in
         let no : lacks is_break (10 ∷ bs) ≡ true = subst (λ (c : ℕ). lacks is_break (c ∷ bs) ≡ true) e lack in
         absurd (cc)
-    by (c ∷ front) is l = ap (λ (q : List ℕ). ends_open (zs ++ q)) is ∙ signed_line zs c front h.sign l (unstopped h.sign h.is_sign)
+    by (c ∷ front) is l = ap (λ (q : List ℕ). ends_open (zs ++ q)) is ∙ signed_line zs c front line l (unstopped (b ∷ bs) g)

@@ -1,6 +1,6 @@
 -- In a content that is written no two braces are side by side, or some of those of the old one are, so where some are written in the place of others the page
 -- has fewer of these, and calls nothing either.
-use Rattle.std.proofs.Common.{◌≡◌, ◌⊎◌, inl, inr, ℕ, ◌==◌, Bool, true, false, List, [], ◌∷◌, ◌++◌, map, refl, sym, ap, ◌∙◌, subst, append-nil}
+use Rattle.std.proofs.Common.{arith, ◌≡◌, ◌⊎◌, inl, inr, ℕ, zero, suc, ◌≤◌, ◌==◌, Bool, true, false, List, [], ◌∷◌, ◌++◌, map, refl, sym, ap, ◌∙◌, subst, append-nil}
 use Rattle.std.proofs.lemmas.Bool.{eqb-true}
 use Rattle.wt_span.specs.Items.{Item, char, whole, sign}
 use Rattle.wt_lines.specs.Kinds.{is_idle}
@@ -114,7 +114,11 @@ line_unclosed (y ∷ ys) e = subst (λ z. (sign z == 125) ≡ false) (sym e) ref
 
 block_unclosed : (k : TextBlock) (q : List ℕ) (rest : List Item) → IsOnSign k q → EndsLine rest → FirstUnclosed (map sign (block_items k q ++ rest))
 block_unclosed a_paragraph q rest h e = first_unclosed (page_items q) rest (subst BeginsUnclosed (sym (page_sources q)) h) (line_unclosed rest e)
-block_unclosed (a_heading s) q rest h e = absurd h
+block_unclosed (a_heading s) q rest h e = by s.level h
+  where
+    by : (n : ℕ) → 1 ≤ n → FirstUnclosed (map sign ((page_chars (equals n ++ s.lead) ++ (page_items q ++ closing_items s)) ++ rest))
+    by zero le = absurd (omega (arith, le))
+    by (suc n) le = refl
 
 pub led_braces : (s : BlockSpot) (rest : List Item) → IsLedTo s.before s.block s.text → EndsLine rest
     → braces_of (page_items s.before ++ (block_items s.block s.text ++ rest)) ≡ braces_of (page_items s.before) ++ braces_of (block_items s.block s.text ++ rest)

@@ -89,7 +89,7 @@ next_at c [] (d ∷ r) z h = h
 next_at c (b ∷ q) r z h = next_at c q r z h
 
 -- a run of such bytes ends at the cut
-run_ends : (c b : ℕ) (q r : List ℕ) → (0 == c) ≡ false → IsCutAt c (b ∷ q) r → prefix_len (λ d. d == c) (b ∷ (q ++ r)) ≤ suc (length q)
+pub run_ends : (c b : ℕ) (q r : List ℕ) → (0 == c) ≡ false → IsCutAt c (b ∷ q) r → prefix_len (λ d. d == c) (b ∷ (q ++ r)) ≤ suc (length q)
 run_ends c b q r z h = elim (cases_lt (suc (length q)) (prefix_len (λ d. d == c) (b ∷ (q ++ r)))) [
   | inl lt ↦ absurd (over lt h)
   | inr le ↦ le
@@ -259,7 +259,7 @@ one_fits f own rest zs bs (y ∷ ys) e some same =
     omega (arith, size, c)
 
 -- a raw form is one item, too
-raw_one : (bs : List ℕ) → (f : ItemForm) × (items_of_word Raw bs ≡ whole f None bs ∷ [])
+pub raw_one : (bs : List ℕ) → (f : ItemForm) × (items_of_word Raw bs ≡ whole f None bs ∷ [])
 raw_one bs = by_tag (opening_tag bs)
   where
     by_name : (t : Bool) → (f : ItemForm) × (items_by (if t then form.Nowiki else form.Extension) None bs ≡ whole f None bs ∷ [])

@@ -1,12 +1,11 @@
 -- A page is UTF-8, and so is each part of it, where it is cut at a block.
-use Rattle.std.proofs.Common.{arith, ◌≡◌, ◌≢◌, inl, inr, ℕ, zero, suc, ◌<◌, ◌≤◌, ◌==◌, Bool, true, List, [], ◌∷◌, ◌++◌, refl, sym, ap, subst, append_assoc, append-nil}
-use Rattle.std.specs.Prelude.{◌||◌}
+use Rattle.std.proofs.Common.{arith, ◌≡◌, ◌≢◌, inl, inr, ℕ, zero, suc, ◌<◌, ◌≤◌, ◌==◌, true, List, [], ◌∷◌, ◌++◌, refl, sym, ap, subst, append_assoc, append-nil}
 use Rattle.std.specs.Str.{IsUtf8}
 use Rattle.std.proofs.lemmas.Bool.{eqb-true}
 use Rattle.std.proofs.lemmas.Str.{IsUtf8-append, IsUtf8-nil}
 use Rattle.wt_names.proofs.Utf8.{utf8_around}
 use Rattle.wt_text_edit_laws.specs.PageCuts.{EndsThere}
-use Rattle.wt_text_edit_laws.specs.SignParts.{IsLedTo}
+use Rattle.wt_text_edit_laws.specs.SignParts.{is_sign_end, IsLedTo}
 use Rattle.wt_text_edit_laws.specs.TextBetween.{EndsBy, is_end, AreEnded}
 use Rattle.wt_text_edit_laws.specs.TextBlocks.{TextBlock, a_heading, source_of}
 use Rattle.wt_text_edit_laws.specs.TypedHeadings.{Sides, AreBlanks, equals, opening, closing}
@@ -58,7 +57,7 @@ ended_utf8 (b ∷ bs) rest e u =
     let both = behind_low l.front l.end rest l.ends (subst (λ (xs : List ℕ). IsUtf8 (xs ++ rest)) l.is u) in
     (subst IsUtf8 (sym l.is) both.0, both.1)
 
--- ---- behind the sign of a table's end or a rule
+-- ---- behind the sign of a table's end or a rule, or the end of a call
 
 brace_utf8 : IsUtf8 (125 ∷ [])
 unfolding lib.Utf8.encode
@@ -67,9 +66,6 @@ brace_utf8 = (125 ∷ [], (refl, refl))
 hyphen_utf8 : IsUtf8 (45 ∷ [])
 unfolding lib.Utf8.encode
 hyphen_utf8 = (45 ∷ [], (refl, refl))
-
-abbrev is_sign_end : ℕ → Bool
-is_sign_end b = b == 125 || b == 45
 
 sign_low : (b : ℕ) → is_sign_end b ≡ true → Low b
 sign_low b e = elim (either (b == 125) (b == 45) e) [
