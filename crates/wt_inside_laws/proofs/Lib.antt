@@ -66,5 +66,6 @@ pub mod LocalCases
 pub mod EditCases
 pub mod CallingCases
 mod WithCallsCases
+mod OrdinaryCases
 pub mod Sources
 pub mod Meeting
