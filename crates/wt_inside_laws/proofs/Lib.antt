@@ -55,10 +55,13 @@ pub mod TextAndCallBlocks
 pub mod HtmlEdits
 pub mod OrdinaryEdits
 pub mod NothingMoved
+pub mod SectionsAlike
 pub mod LocalTextEdits
 pub mod EditsWithCalls
 pub mod GivenBack
 pub mod TypedApart
+pub mod OneSource
+pub mod OrdinaryBeside
 pub mod TypedBeside
 pub mod InsidesCases
 pub mod PageCases

@@ -1,5 +1,5 @@
 -- Worked case: on the page `{{t}} is`, where `Template:T` is a word, `was` is typed in the place of `is`. That is a text edit of a block that holds a call
--- (`MarksBlocksWithCalls`), told whole; HTML that is read as what is sent is answered by the page `{{t}} was`.
+-- (`IsMarkedEdit`), told whole; HTML that is read as what is sent is answered by the page `{{t}} was`.
 use Rattle.std.proofs.Common.{arith, ◌≡◌, ◌≤◌, inl, inr, ℕ, false, Option, Some, None, List, [], ◌∷◌, length, refl, sym, ap, ◌∙◌, subst}
 use Rattle.std.specs.Prelude.{codes}
 use Rattle.std.specs.List.{AllByRecursion}
@@ -52,7 +52,7 @@ use Rattle.wt_expand.specs.Targets.{title_in_target, title_of_target, is_functio
 use Rattle.wt_expand.specs.Templates.{begins_only, ends_only, template_text}
 use Rattle.wt_expand.specs.Expansion.{text_members, most_templates, absent_text, loop_text, depth_text}
 use Rattle.wt_expand.specs.PageCalls.{page_stretches, expanded_page}
-use Rattle.wt_page_round_trip.specs.PageTree.{expanded_tree}
+use Rattle.wt_page_round_trip.specs.PageTree.{expanded_tree, page_tree}
 use Rattle.wt_isolation.specs.GroupItems.{empty_nowiki}
 use Rattle.wt_original.specs.Kept.{kept_with}
 use Rattle.wt_checks.specs.Checked.{checked}
@@ -81,10 +81,10 @@ use Rattle.wt_called_edit_laws.specs.Settled.{settled}
 use Rattle.wt_called_edit_laws.proofs.Beside.EndCases.{called_at, nth}
 use Rattle.wt_called_edit_laws.proofs.Beside.FirstCases.{source, text_and_calls, calls_apart, unrefused_here}
 use Rattle.wt_inside_laws.specs.BesideEdits.{IsBesideBlock}
-use Rattle.wt_inside_laws.specs.EditsWithCalls.{MayHoldCalls, MarksBlocksWithCalls, IsEditWithCalls}
+use Rattle.wt_inside_laws.specs.EditsWithCalls.{MayHoldCalls, IsMarkedEdit}
 use Rattle.wt_inside_laws.specs.TextAndCallBlocks.{DoCallsMeet, IsTextAndCallBlock}
 use Rattle.wt_inside_laws.specs.TextEdits.{IsRetyped, IsTextEdit}
-use Rattle.wt_inside_laws.proofs.EditsWithCalls.{calls_editable, calls_written}
+use Rattle.wt_inside_laws.proofs.EditsWithCalls.{calls_editable, marked_written}
 use Rattle.wt_inside_laws.proofs.InsidesCases.{text, inner}
 use Rattle.wt_inside_laws.proofs.Sources.{untrue}
 use Rattle.wt_inside_laws.proofs.TextAndCallBlocks.{takes_texts, paragraph_takes}
@@ -177,14 +177,16 @@ takes = takes_texts a_word source pair is_such
 pub may_hold : MayHoldCalls a_word source pair
 may_hold = record {
   unexcepted = unexcepted block;
-  editable = record {
-    block = a_paragraph;
-    text = source;
-    kind = refl;
-    source = block_source;
-    content = calls_editable a_word a_paragraph source text_and_calls;
-  };
-  beside = takes;
+  held = inr (record {
+    editable = record {
+      block = a_paragraph;
+      text = source;
+      kind = refl;
+      source = block_source;
+      content = calls_editable a_word a_paragraph source text_and_calls;
+    };
+    beside = takes;
+  });
 }
 
 -- ---- the edit
@@ -251,27 +253,29 @@ edit_here = record {
   room = let z = ap length new_page in omega (arith, z);
 }
 
-pub marks_it : MarksBlocksWithCalls a_word source new
-marks_it = record {
-  edit = subst (λ (e : Expanded). IsTextEdit same_node e source (expanded_tree e) new) (sym expanded_is) edit_here;
-  blocks = subst (λ (e : Expanded). AllByRecursion (MayHoldCalls a_word source) (marked (expanded_tree e) new)) (sym expanded_is)
-      (subst (AllByRecursion (MayHoldCalls a_word source)) (sym marked_is) (may_hold, tt));
-}
+edit_there : IsTextEdit same_node (expanded_page a_word source) source (page_tree a_word source) new
+edit_there = subst (λ (e : Expanded). IsTextEdit same_node e source (expanded_tree e) new) (sym expanded_is) edit_here
+
+all_may_hold : AllByRecursion (MayHoldCalls a_word source) (marked (page_tree a_word source) new)
+all_may_hold =
+    subst (λ (e : Expanded). AllByRecursion (MayHoldCalls a_word source) (marked (expanded_tree e) new)) (sym expanded_is)
+    (subst (AllByRecursion (MayHoldCalls a_word source)) (sym marked_is) (may_hold, tt))
 
 -- ---- HTML that is read as this tree
 
-pub as_html : (input : List ℕ) (unsourced : Option ℕ) → read input ≡ as_page new unsourced → IsEditWithCalls a_word source input new unsourced
+pub as_html : (input : List ℕ) (unsourced : Option ℕ) → read input ≡ as_page new unsourced → IsMarkedEdit a_word source input new unsourced
 as_html input unsourced h = record {
   utf8 = text_and_calls.read.utf8;
   short = omega arith;
   unrefused = unrefused_here;
   sent = h;
-  edit = marks_it;
+  edit = edit_there;
+  blocks = inr all_may_hold;
 }
 
 -- is answered by the page with the new text
 pub is_answered : (input : List ℕ) (unsourced : Option ℕ) → read input ≡ as_page new unsourced → length input ≤ HTML_BYTES
     → edit_of a_word (Some source) input ≡ done (codes "{{t}} was")
 is_answered input unsourced h le =
-    calls_written a_word source input new unsourced (as_html input unsourced h) le
+    marked_written a_word source input new unsourced (as_html input unsourced h) le
     ∙ ap (λ (e : Expanded). done (spliced source (slices same_node (expanded_tree e) new))) expanded_is ∙ ap done new_page
