@@ -1,4 +1,3 @@
-use Rattle.wt_inside_laws.proofs.OrdinaryCases.{marked_is, new_page}
 use Rattle.wt_inside_laws.proofs.Meeting.{meets}
 use Rattle.wt_inside_laws.proofs.edges.blocks_meet_plainly.Goals as goal
 
