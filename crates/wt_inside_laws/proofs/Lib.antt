@@ -72,3 +72,5 @@ mod WithCallsCases
 mod OrdinaryCases
 pub mod Sources
 pub mod Meeting
+pub mod NodeNumbers
+pub mod NodeBlocks
