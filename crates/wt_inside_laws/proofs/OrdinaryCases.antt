@@ -45,7 +45,7 @@ use Rattle.wt_context.specs.Nodes.{segments, nested_tree}
 use Rattle.wt_context.specs.Line.{context_parts, line_trees}
 use Rattle.wt_page.specs.Headings.{heading}
 use Rattle.wt_page.specs.Lists.{lists, line_item}
-use Rattle.wt_page.specs.Rows.{rows, rows_from}
+use Rattle.wt_page.specs.Rows.{rows}
 use Rattle.wt_page.specs.Tables.{cell_stretches, row_stretches, table_by}
 use Rattle.wt_page.specs.Texts.{para}
 use Rattle.wt_page.specs.Body.{blocks, meaning}
@@ -74,9 +74,10 @@ use Rattle.wt_beside_laws.specs.FlatBlocks.{signs_in}
 use Rattle.wt_beside_laws.specs.NodeItems.{node_items}
 use Rattle.wt_beside_laws.specs.OpenTags.{EndTags}
 use Rattle.wt_called_edit_laws.specs.AllTold.{IsExcepted}
+use Rattle.wt_called_edit_laws.specs.CallingTold.{untold}
 use Rattle.wt_called_edit_laws.specs.SentAsIs.{as_sent, all_as_sent}
 use Rattle.wt_called_edit_laws.proofs.AllTold.CalmPages.{calm_excepted}
-use Rattle.wt_called_edit_laws.proofs.AllTold.EndCases.{AllWhole, none_excepted_at}
+use Rattle.wt_called_edit_laws.proofs.AllTold.CalmCalls.{AreUnsigned, none_signed_at}
 use Rattle.wt_called_edit_laws.proofs.AllTold.PlaceStarts.{standing_source}
 use Rattle.wt_called_edit_laws.proofs.Beside.EndCases.{nth}
 use Rattle.wt_called_edit_laws.proofs.Cells.PageCases.{is_free, are_free, free_node}
@@ -105,15 +106,15 @@ expanded = of_items items
 expanded_is : (pages : Pages) → expanded_page pages page ≡ expanded
 expanded_is pages = calm_expanded pages page calm ∙ ap of_items are_items
 
-all_whole : AllWhole (rows_from 0 (full_lines items))
+none_signed : AreUnsigned 0 (full_lines items)
 unfolding kind_of_signs level opening inside closing single_at bar_at cell_of cells table_attributes row_attributes inner_len
-all_whole = (tt, (tt, (tt, (tt, (tt, tt)))))
+none_signed = (((λ z u. absurd (cc)), (λ z u. absurd (cc))), (((λ z u. absurd (cc)), (λ z u. absurd (cc))), (((λ z u. absurd (cc)), (λ z u. absurd (cc))), (((λ z u. absurd (cc)), (λ z u. absurd (cc))), (((λ z u. absurd (cc)), (λ z u. absurd (cc))), (((λ z u. absurd (cc)), (λ z u. absurd (cc))), tt))))))
 
 none_excepted : (pages : Pages) (t : Tree) → IsExcepted pages page t → ⊥
 none_excepted pages t x =
     let r = calm_excepted pages page t calm x in
-    none_excepted_at (full_lines (expanded_page pages page).items) _
-    (subst (λ (e : Expanded). AllWhole (rows_from 0 (full_lines e.items))) (sym (expanded_is pages)) all_whole) r.1
+    none_signed_at (full_lines (expanded_page pages page).items) _ (subst (λ (e : Expanded). AreUnsigned 0 (full_lines e.items)) (sym (expanded_is pages)) none_signed)
+    (untold r.1)
 
 -- ---- its tree, and what is sent
 
