@@ -1,5 +1,5 @@
--- A content beside nodes that bring no calls is UTF-8, has no two braces side by side, and calls nothing.
-use Rattle.std.proofs.Common.{arith, ◌≡◌, ◌⊎◌, ℕ, ◌≤◌, ◌==◌, Bool, true, false, Some, None, List, [], ◌∷◌, ◌++◌, map, refl, sym, ap, ◌∙◌, subst, inl, inr, All}
+-- A content beside nodes is UTF-8 where they are, and has the braces side by side that they have: where they bring none, it calls nothing.
+use Rattle.std.proofs.Common.{arith, ◌≡◌, ◌⊎◌, ℕ, ◌≤◌, ◌==◌, Bool, true, false, Some, None, List, [], ◌∷◌, ◌++◌, map, refl, sym, ap, ap₂, ◌∙◌, subst, inl, inr, All}
 use Rattle.std.specs.Prelude.{◌||◌, encode_utf8}
 use Rattle.std.specs.Char.{IsScalar}
 use Rattle.std.specs.Fmt.{digits}
@@ -13,7 +13,7 @@ use Rattle.wt_span.specs.Items.{Item, char, whole, sign}
 use Rattle.wt_names.proofs.Ascii.{IsWide, encode_wide}
 use Rattle.wt_guards.specs.declared.role.Role.{Role}
 use Rattle.wt_guards.specs.declared.role.Role.TheVariants.{Link, External, Bare, Switch, Toggle, Mark, Group, Function, Node}
-use Rattle.wt_guards.specs.Content.{ContentSign, letter, thing}
+use Rattle.wt_guards.specs.Content.{ContentSign, Thing, letter, thing}
 use Rattle.wt_guards.specs.Guards.{Setting, nowiki, nowiki_if, is_guarded, spelled_from, spelled}
 use Rattle.wt_guards.specs.Letters.{is_bracket, is_escaped, reference, written_by}
 use Rattle.wt_guards.proofs.Escapes.{is_escapable, escapable, each_escapable}
@@ -28,12 +28,12 @@ use Rattle.wt_expand.specs.PageCalls.{expanded_page}
 use Rattle.wt_expand.specs.Work.{Pages, first_refusal}
 use Rattle.wt_expand.specs.Expansion.{page_work}
 use Rattle.wt_text_edit_laws.specs.LonePages.{page_chars, of_items}
-use Rattle.wt_text_edit_laws.specs.NoCalls.{Brace, NonePairs, CallsNothing, AreUnpaired, is_brace, AreUnbraced}
+use Rattle.wt_text_edit_laws.specs.NoCalls.{Brace, NonePairs, CallsNothing, AreUnpaired, is_brace, AreUnbraced, braces_of}
 use Rattle.wt_text_edit_laws.specs.ReadContents.{BeginsUnclosed}
 use Rattle.wt_text_edit_laws.proofs.Blocks.SignBraces.{items_unclosed}
-use Rattle.wt_text_edit_laws.proofs.Between.LessBraces.{BeginsUnbraced, braces_of, items_before_start, whole_sign, none_unbraced, unbraced_begins}
+use Rattle.wt_text_edit_laws.proofs.Between.LessBraces.{BeginsUnbraced, items_before_start, whole_sign, none_unbraced, unbraced_begins}
 use Rattle.wt_text_edit_laws.proofs.Between.NoCalls.{calm_expanded, calm_unrefused}
-use Rattle.wt_beside_laws.specs.Calm.{IsCalm, AreCalm}
+use Rattle.wt_beside_laws.specs.Calm.{IsCalm, AreCalm, AreUtf8Nodes}
 use Rattle.wt_beside_laws.specs.Content.{guard_items, letter_items, content_items}
 use Rattle.wt_beside_laws.specs.Lines.{AreCharacters}
 use Rattle.wt_beside_laws.specs.Nodes.{IsDelimiter, IsTagNode, IsCategoryNode, IsMediaNode, IsOneLexeme, IsNode, AreNodes}
@@ -43,6 +43,7 @@ use Rattle.wt_beside_laws.proofs.NodeItems.{node_as}
 use Rattle.wt_beside_laws.proofs.Marks.Commented.{content_alone}
 use Rattle.wt_beside_laws.specs.Flat.{IsReadIn}
 use Rattle.wt_beside_laws.specs.NodeItems.{node_items}
+use Rattle.wt_beside_laws.specs.Stood.{things}
 
 -- ---- UTF-8
 
@@ -63,7 +64,7 @@ pub letter_utf8 : (s : Setting) (before after : List ContentSign) (c : ℕ) (t :
 letter_utf8 s before after c true e h = reference_utf8 c (escapable s.within s.place before c after e)
 letter_utf8 s before after c false e h = IsUtf8-encode c h
 
-from_utf8 : (s : Setting) (before signs : List ContentSign) → AreCharacters signs → AreCalm signs → IsUtf8 (spelled_from s before signs)
+from_utf8 : (s : Setting) (before signs : List ContentSign) → AreCharacters signs → AreUtf8Nodes signs → IsUtf8 (spelled_from s before signs)
 from_utf8 s before [] v h = guard_utf8 (is_guarded s before [])
 from_utf8 s before (letter c ∷ after) v h =
     let e : Bool = is_escaped s.within s.place before c after in
@@ -73,32 +74,37 @@ from_utf8 s before (letter c ∷ after) v h =
 from_utf8 s before (thing t ∷ after) v h =
     let rest : List ℕ = spelled_from s (thing t ∷ before) after in
     IsUtf8-append (nowiki_if (is_guarded s before (thing t ∷ after))) (t.source ++ rest) (guard_utf8 (is_guarded s before (thing t ∷ after)))
-    (IsUtf8-append t.source rest h.0.utf8 (from_utf8 s (thing t ∷ before) after v h.1))
+    (IsUtf8-append t.source rest h.0 (from_utf8 s (thing t ∷ before) after v h.1))
 
-pub content_utf8 : (s : Setting) (signs : List ContentSign) → AreCharacters signs → AreCalm signs → IsUtf8 (spelled s signs)
+pub content_utf8 : (s : Setting) (signs : List ContentSign) → AreCharacters signs → AreUtf8Nodes signs → IsUtf8 (spelled s signs)
 content_utf8 s signs v h = from_utf8 s [] signs v h
+
+pub calm_utf8 : (signs : List ContentSign) → AreCalm signs → AreUtf8Nodes signs
+calm_utf8 [] h = tt
+calm_utf8 (letter c ∷ after) h = calm_utf8 after h
+calm_utf8 (thing t ∷ after) h = (h.0.utf8, calm_utf8 after h.1)
 
 -- ---- braces
 
--- no two braces are side by side, and none is first
-record Unpaired (xs : List Item) : Type 0 where
-  none : AreUnpaired xs
+-- these are side by side, two and two, and none is first
+record Braced (xs : List Item) (bs : List Brace) : Type 0 where
+  is : braces_of xs ≡ bs
   begins : BeginsUnbraced (map sign xs)
 
 begins_both : (xs ys : List Item) → BeginsUnbraced (map sign xs) → BeginsUnbraced (map sign ys) → BeginsUnbraced (map sign (xs ++ ys))
 begins_both [] ys h k = k
 begins_both (x ∷ xs) ys h k = h
 
-both_unpaired : (xs ys : List Item) → Unpaired xs → Unpaired ys → Unpaired (xs ++ ys)
-both_unpaired xs ys h k = record {
-  none = items_before_start xs ys k.begins ∙ ap (λ (bs : List Brace). bs ++ braces_of ys) h.none ∙ k.none;
+both_braced : (xs ys : List Item) (bs cs : List Brace) → Braced xs bs → Braced ys cs → Braced (xs ++ ys) (bs ++ cs)
+both_braced xs ys bs cs h k = record {
+  is = items_before_start xs ys k.begins ∙ ap₂ (λ (us vs : List Brace). us ++ vs) h.is k.is;
   begins = begins_both xs ys h.begins k.begins;
 }
 
-unbraced_so : (xs : List Item) → AreUnbraced xs → Unpaired xs
-unbraced_so xs h = record { none = none_unbraced xs h; begins = unbraced_begins xs h }
+unbraced_so : (xs : List Item) → AreUnbraced xs → Braced xs []
+unbraced_so xs h = record { is = none_unbraced xs h; begins = unbraced_begins xs h }
 
-guard_none : (u : Bool) → Unpaired (guard_items u)
+guard_none : (u : Bool) → Braced (guard_items u) []
 guard_none true = unbraced_so (guard_items true) tt
 guard_none false = unbraced_so [] tt
 
@@ -126,7 +132,7 @@ letter_unbraced false c f = elim (cases_lt c 128) [
   | inr wide ↦ wide_none (encode_utf8 c) (encode_wide c wide)
 ]
 
-letter_none : (e : Bool) (c : ℕ) → (e ≡ false → is_bracket c ≡ false) → Unpaired (letter_items e c)
+letter_none : (e : Bool) (c : ℕ) → (e ≡ false → is_bracket c ≡ false) → Braced (letter_items e c) []
 letter_none e c f = unbraced_so (letter_items e c) (letter_unbraced e c f)
 
 -- ---- no node begins with a brace
@@ -191,29 +197,44 @@ node_first Node own n = other_first own n
 
 -- ---- a content
 
-content_none : (s : Setting) (before signs : List ContentSign) → AreNodes signs → AreCalm signs → Unpaired (content_items s before signs)
-content_none s before [] n h = guard_none (is_guarded s before [])
-content_none s before (letter c ∷ after) n h =
+-- of nodes, one after the other
+abbrev pub braces_in : List Thing → List Brace
+braces_in [] = []
+braces_in (t ∷ ts) = braces_of (node_items t.source) ++ braces_in ts
+
+content_braced : (s : Setting) (before signs : List ContentSign) → AreNodes signs → Braced (content_items s before signs) (braces_in (things signs))
+content_braced s before [] n = guard_none (is_guarded s before [])
+content_braced s before (letter c ∷ after) n =
     let e : Bool = is_escaped s.within s.place before c after in
     let own : List Item = letter_items e c in
     let more : List Item = content_items s (letter c ∷ before) after in
-    both_unpaired (guard_items (is_guarded s before (letter c ∷ after))) (own ++ more) (guard_none (is_guarded s before (letter c ∷ after)))
-    (both_unpaired own more (letter_none e c (λ f. not_bracket (is_bracket c) e (bracket_escaped s.within s.place before c after) f))
-    (content_none s (letter c ∷ before) after n h))
-content_none s before (thing t ∷ after) n h =
+    both_braced (guard_items (is_guarded s before (letter c ∷ after))) (own ++ more) [] (braces_in (things after)) (guard_none (is_guarded s before (letter c ∷ after)))
+    (both_braced own more [] (braces_in (things after)) (letter_none e c (λ f. not_bracket (is_bracket c) e (bracket_escaped s.within s.place before c after) f))
+    (content_braced s (letter c ∷ before) after n))
+content_braced s before (thing t ∷ after) n =
     let own : List Item = node_items t.source in
     let more : List Item = content_items s (thing t ∷ before) after in
-    let one : Unpaired own = record { none = h.0.unpaired; begins = first_begins own (node_first t.role (map glyph_of own) n.0) } in
-    both_unpaired (guard_items (is_guarded s before (thing t ∷ after))) (own ++ more) (guard_none (is_guarded s before (thing t ∷ after)))
-    (both_unpaired own more one (content_none s (thing t ∷ before) after n.1 h.1))
+    let one : Braced own (braces_of own) = record { is = refl; begins = first_begins own (node_first t.role (map glyph_of own) n.0) } in
+    both_braced (guard_items (is_guarded s before (thing t ∷ after))) (own ++ more) [] (braces_of own ++ braces_in (things after))
+    (guard_none (is_guarded s before (thing t ∷ after)))
+    (both_braced own more (braces_of own) (braces_in (things after)) one (content_braced s (thing t ∷ before) after n.1))
 
-pub content_unpaired : (s : Setting) (signs : List ContentSign) → IsReadIn s signs → AreCalm signs → AreUnpaired (page_items (spelled s signs))
-content_unpaired s signs k h = let own = content_none s [] signs k.nodes h in subst AreUnpaired (sym (content_alone s signs k)) own.none
+-- a content has those of its nodes
+pub content_braces : (s : Setting) (signs : List ContentSign) → IsReadIn s signs → braces_of (page_items (spelled s signs)) ≡ braces_in (things signs)
+content_braces s signs k = let own = content_braced s [] signs k.nodes in ap braces_of (content_alone s signs k) ∙ own.is
+
+calm_none : (signs : List ContentSign) → AreCalm signs → braces_in (things signs) ≡ []
+calm_none [] h = refl
+calm_none (letter c ∷ after) h = calm_none after h
+calm_none (thing t ∷ after) h = ap₂ (λ (us vs : List Brace). us ++ vs) h.0.unpaired (calm_none after h.1)
+
+content_unpaired : (s : Setting) (signs : List ContentSign) → IsReadIn s signs → AreCalm signs → AreUnpaired (page_items (spelled s signs))
+content_unpaired s signs k h = content_braces s signs k ∙ calm_none signs h
 
 -- it begins with no `}`
-pub content_unclosed : (s : Setting) (signs : List ContentSign) → IsReadIn s signs → AreCalm signs → BeginsUnclosed (spelled s signs)
-content_unclosed s signs k h =
-    let own = content_none s [] signs k.nodes h in
+pub content_unclosed : (s : Setting) (signs : List ContentSign) → IsReadIn s signs → BeginsUnclosed (spelled s signs)
+content_unclosed s signs k =
+    let own = content_braced s [] signs k.nodes in
     items_unclosed (spelled s signs) (subst (λ (xs : List Item). BeginsUnbraced (map sign xs)) (sym (content_alone s signs k)) own.begins)
 
 pub content_calm : (s : Setting) (signs : List ContentSign) → IsReadIn s signs → AreCalm signs → CallsNothing (page_items (spelled s signs))

@@ -24,10 +24,12 @@ use Rattle.wt_beside_laws.specs.Content.{AreKept, guard_items, letter_items, con
 use Rattle.wt_beside_laws.specs.InHeadings.{AreOnOneLine, IsHeadingContent, LastEndsUnequal, IsSome, KeepsLevel}
 use Rattle.wt_beside_laws.specs.Lines.{AreCharacters, AreUnbroken, line_items}
 use Rattle.wt_beside_laws.specs.Nodes.{AreNodes}
+use Rattle.wt_beside_laws.specs.Unjoined.{AllUnjoined}
 use Rattle.wt_beside_laws.proofs.LineItems.{letter_unbroken}
 use Rattle.wt_beside_laws.proofs.LineKinds.{Opens, line_opens}
 use Rattle.wt_beside_laws.proofs.NodeEnds.{EndInSigns, nodes_end, ends_unequal}
 use Rattle.wt_beside_laws.proofs.Marks.Commented.{content_alone}
+use Rattle.wt_beside_laws.proofs.Marks.Unjoined.{meet_unjoined}
 use Rattle.wt_beside_laws.specs.NodeItems.{node_items}
 use Rattle.wt_beside_laws.specs.Led.{AreMarksLed}
 
@@ -129,9 +131,9 @@ content_last s before (thing t ∷ after) own w p e f =
 -- ---- the content
 
 pub inside_by : (s : Setting) (signs : List ContentSign) → s.within ≡ false → s.place ≡ place.Heading → AreKept signs → AreUnbroken signs → AreCharacters signs
-    → AreNodes signs → AreMarksLed signs → AreOnOneLine signs → IsHeadingInside (page_items (spelled s signs))
-inside_by s signs block head kept unbroken characters nodes led one =
-    let is = content_alone s signs (record { within = block; kept = kept; nodes = nodes; led = led }) in
+    → AreNodes signs → AllUnjoined s [] signs → AreMarksLed signs → AreOnOneLine signs → IsHeadingInside (page_items (spelled s signs))
+inside_by s signs block head kept unbroken characters nodes unjoined led one =
+    let is = content_alone s signs (record { within = block; kept = kept; nodes = nodes; unjoined = unjoined; led = led }) in
     subst IsHeadingInside (sym is)
     (record {
       unbroken = content_none s [] signs one unbroken;
@@ -143,7 +145,8 @@ inside_by s signs block head kept unbroken characters nodes led one =
 
 pub heading_inside : (s : Setting) (signs : List ContentSign) → IsHeadingContent s signs → IsHeadingInside (page_items (spelled s signs))
 heading_inside s signs h =
-    inside_by s signs h.flat.of_block h.of_heading h.flat.kept h.flat.unbroken h.flat.characters h.flat.nodes h.flat.led h.one_line
+    inside_by s signs h.flat.of_block h.of_heading h.flat.kept h.flat.unbroken h.flat.characters h.flat.nodes (meet_unjoined s [] signs h.flat.nodes h.flat.meet) h.flat.led
+    h.one_line
 
 -- ---- its level
 
@@ -206,11 +209,11 @@ unequal_end ss [] a (inl h) = absurd h
 unequal_end ss [] a (inr h) = ends_other ss [] a h
 unequal_end ss (b ∷ bs) a h = ends_still ss b bs (ends_blank b bs a)
 
-pub level_by : (s : Setting) (signs : List ContentSign) (sides : Sides) → s.within ≡ false → AreKept signs → AreCharacters signs → AreNodes signs → AreMarksLed signs
-    → AreOnOneLine signs → AreSides sides → KeepsLevel sides signs → IsOfLevel sides (page_items (spelled s signs))
-level_by s signs sides block kept characters nodes led one a k =
+pub level_by : (s : Setting) (signs : List ContentSign) (sides : Sides) → s.within ≡ false → AreKept signs → AreCharacters signs → AreNodes signs
+    → AllUnjoined s [] signs → AreMarksLed signs → AreOnOneLine signs → AreSides sides → KeepsLevel sides signs → IsOfLevel sides (page_items (spelled s signs))
+level_by s signs sides block kept characters nodes unjoined led one a k =
     let own : List Item = page_items (spelled s signs) in
-    let is : own ≡ content_items s [] signs = content_alone s signs (record { within = block; kept = kept; nodes = nodes; led = led }) in
+    let is : own ≡ content_items s [] signs = content_alone s signs (record { within = block; kept = kept; nodes = nodes; unjoined = unjoined; led = led }) in
     let ss : List ℕ = map sign own in
     let begins : BeginsWithout is_equals_sign ss =
     subst (λ xs. BeginsWithout is_equals_sign (map sign xs)) (sym (is ∙ sym (same_items s [] signs one)))
@@ -226,4 +229,5 @@ level_by s signs sides block kept characters nodes led one a k =
 
 pub content_level : (s : Setting) (signs : List ContentSign) (sides : Sides) → IsHeadingContent s signs → AreSides sides → KeepsLevel sides signs
     → IsOfLevel sides (page_items (spelled s signs))
-content_level s signs sides h a k = level_by s signs sides h.flat.of_block h.flat.kept h.flat.characters h.flat.nodes h.flat.led h.one_line a k
+content_level s signs sides h a k =
+    level_by s signs sides h.flat.of_block h.flat.kept h.flat.characters h.flat.nodes (meet_unjoined s [] signs h.flat.nodes h.flat.meet) h.flat.led h.one_line a k

@@ -9,6 +9,7 @@ pub mod Closes
 pub mod Items
 pub mod Letters
 pub mod Written
+pub mod FewerBraces
 pub mod Inline
 pub mod Making
 pub mod Cases

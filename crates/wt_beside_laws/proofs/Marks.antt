@@ -1,6 +1,9 @@
 mod Cases
 mod LineCases
 pub mod Commented
+pub mod Uncommented
+pub mod Unjoined
+mod UnjoinedCases
 pub mod Ends
 pub mod InLine
 mod LinkCases

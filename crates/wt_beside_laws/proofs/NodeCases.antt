@@ -20,7 +20,7 @@ use Rattle.wt_tiles.specs.Tiles.{switch_names}
 use Rattle.wt_tiles.specs.Urls.{scheme_len, is_url_char, is_dropped, kept_len, bare_shape, ext_shape, ext_link_at, bare_url_at}
 use Rattle.wt_text_edit_laws.specs.LonePages.{page_chars}
 use Rattle.wt_beside_laws.specs.Cuts.{own_glyphs}
-use Rattle.wt_beside_laws.specs.EndedNodes.{may_be_reference}
+use Rattle.wt_beside_laws.specs.References.{may_be_reference}
 use Rattle.wt_beside_laws.specs.Glyphs.{line_glyphs}
 use Rattle.wt_beside_laws.specs.NodeItems.{node_items}
 use Rattle.wt_beside_laws.specs.Nodes.{IsExternalNode, IsBareNode, IsSwitchNode, IsDelimiter, IsTagNode, IsOpenBefore, AllMeet}

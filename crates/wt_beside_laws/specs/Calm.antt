@@ -15,3 +15,9 @@ abbrev pub AreCalm : List ContentSign → Type 0
 AreCalm [] = Unit {0}
 AreCalm (letter c ∷ after) = AreCalm after
 AreCalm (thing t ∷ after) = IsCalm t.source × AreCalm after
+
+-- the source of each node is UTF-8
+abbrev pub AreUtf8Nodes : List ContentSign → Type 0
+AreUtf8Nodes [] = Unit {0}
+AreUtf8Nodes (letter c ∷ after) = AreUtf8Nodes after
+AreUtf8Nodes (thing t ∷ after) = IsUtf8 t.source × AreUtf8Nodes after

@@ -9,9 +9,11 @@ use Rattle.wt_span.specs.Items.{Item, char, whole}
 use Rattle.wt_expand.specs.PageItems.{page_items}
 use Rattle.wt_guards.specs.declared.role.Role.{Role}
 use Rattle.wt_guards.specs.declared.role.Role.TheVariants.{Link, External, Bare, Switch, Toggle, Mark, Group, Function, Node}
+use Rattle.wt_text_edit_laws.specs.ReadContents.{BeginsUnjoined}
 use Rattle.wt_text_edit_laws.specs.TextBetween.{EndsBy, HasNoTag}
 use Rattle.wt_beside_laws.specs.Kept.{is_lexeme_end, IsKept}
 use Rattle.wt_beside_laws.specs.PageSigns.{ends_break, HasNoBreak}
+use Rattle.wt_beside_laws.specs.References.{ReferencesEnd}
 
 -- These bytes behind a `<` are a comment with it, whatever is written behind them. It ends with its `>`.
 pub record IsComment (q : List ℕ) : Type 0 where
@@ -60,9 +62,9 @@ BeginsShown (char o b ∷ xs) = (is_blank b ≡ false) × (is_break b ≡ false)
 BeginsShown (whole f o bs ∷ xs) = IsNoComment f
 
 -- A node on one line that begins with no comment, though comments may be in it: whatever is read behind it, it is read as it is by itself, and so is
--- what is behind it.
+-- what is behind it. If a reference may begin at its end, as in a URL that ends with `&copy`, what is behind it is to go on with none.
 pub record IsReadInLine (source : List ℕ) : Type 0 where
-  pub reads : (rest : List ℕ) → page_items (source ++ rest) ≡ page_items source ++ page_items rest
+  pub reads : (rest : List ℕ) → ReferencesEnd source ⊎ BeginsUnjoined rest → page_items (source ++ rest) ≡ page_items source ++ page_items rest
   pub begins : BeginsShown (page_items source)
   pub unbroken : HasNoBreak (page_items source)
   pub ends : LexemesEnd (page_items source)

@@ -14,6 +14,7 @@ use Rattle.wt_beside_laws.specs.Content.{AreKept, guard_items, letter_items}
 use Rattle.wt_beside_laws.specs.Led.{AreMarksLed}
 use Rattle.wt_beside_laws.specs.Lines.{AreCharacters, AreUnbroken}
 use Rattle.wt_beside_laws.specs.Nodes.{AreNodes, AllMeet}
+use Rattle.wt_beside_laws.specs.Unjoined.{AllUnjoined}
 
 -- it is no style delimiter
 abbrev pub IsFlat : Role → Type 0
@@ -37,6 +38,7 @@ pub record IsReadIn (s : Setting) (signs : List ContentSign) : Type 0 where
   pub within : s.within ≡ false
   pub kept : AreKept signs
   pub nodes : AreNodes signs
+  pub unjoined : AllUnjoined s [] signs
   pub led : AreMarksLed signs
 
 -- Such a content of a paragraph or a heading: text that is typed, and nodes that stay, each read so whatever is written behind it, on one line

@@ -2,6 +2,8 @@ pub mod Kept
 pub mod NodeItems
 pub mod Led
 pub mod Nodes
+pub mod References
+pub mod Unjoined
 pub mod Commented
 pub mod Content
 pub mod Cuts

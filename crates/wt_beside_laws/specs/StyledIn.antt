@@ -15,7 +15,7 @@ use Rattle.wt_typed_blocks.specs.Edited.{Pieces, page_pieces, PiecesStay}
 use Rattle.wt_text_edit_laws.specs.Contents.{IsContentOf, content_parts_of}
 use Rattle.wt_text_edit_laws.specs.NoCalls.{CallsNothing}
 use Rattle.wt_text_edit_laws.specs.TextBlocks.{TextBlock, a_paragraph, a_heading, source_of, block_items}
-use Rattle.wt_beside_laws.specs.Calm.{AreCalm}
+use Rattle.wt_beside_laws.specs.Calm.{AreUtf8Nodes}
 use Rattle.wt_beside_laws.specs.Content.{AreKept}
 use Rattle.wt_beside_laws.specs.FlatBlocks.{lines_in, signs_in as signs_of, TextsFitIn, sent_for}
 use Rattle.wt_beside_laws.specs.FlatPages.{AreNodesAndTexts}
@@ -40,7 +40,7 @@ pub record IsStyledIn (k : TextBlock) (q : List ℕ) : Type 0 where
   pub has_items : AllHaveItems (forest (children (content_parts_of k (page_items q))))
   pub flat : AreFlatLines (lines_in k q)
   pub kept : AreKept (signs_of k q)
-  pub calm : AreCalm (signs_of k q)
+  pub nodes_utf8 : AreUtf8Nodes (signs_of k q)
   pub shut : AreShut (signs_of k q)
 
 -- no bold and no italic is in it

@@ -11,7 +11,7 @@ ghost use Rattle.wt_expand.specs.PageCalls.{expanded_page};
 ghost use Rattle.wt_expand.specs.Work.{Pages, first_refusal};
 ghost use Rattle.wt_expand.specs.Expansion.{page_work};
 ghost use Rattle.wt_text_edit_laws.specs.LonePages.{of_items};
-ghost use Rattle.wt_beside_laws.specs.Calm.{AreCalm};
+ghost use Rattle.wt_beside_laws.specs.Calm.{AreCalm, AreUtf8Nodes};
 ghost use Rattle.wt_lines.specs.Lines.{lines};
 ghost use Rattle.wt_isolation.specs.OpenTags.{any_ends_open};
 ghost use Rattle.wt_inline.specs.ItemTree.{forest};
@@ -23,6 +23,7 @@ ghost use Rattle.wt_page.specs.Rows.{rows};
 ghost use Rattle.wt_page.specs.Texts.{para};
 ghost use Rattle.wt_text_edit_laws.specs.ParagraphParts.{joined_parts, para_with};
 ghost use Rattle.wt_text_edit_laws.specs.ParagraphBetween.{AreClosed, before_marks, EndsApart, EndsParagraph, blocks_in, body_with};
+ghost use Rattle.wt_text_edit_laws.specs.ReadContents.{BeginsUnjoined};
 ghost use Rattle.wt_text_edit_laws.specs.TextBetween.{StandsBehind};
 ghost use Rattle.wt_tiles.specs.declared.glyph.Glyph.{Glyph as Sign};
 ghost use Rattle.wt_tiles.specs.declared.shape.Shape.{Shape as Tile};
@@ -98,11 +99,12 @@ pub use untangled::{
 
 /// A content of text that is typed and of nodes that stay, as it is spelled, makes no lexeme over the border of a text and
 /// a node: its items are those of each node by itself, the characters and references of the text, and the nowikis that
-/// are put between. So they are before whatever stands behind the content.
+/// are put between. So they are before whatever stands behind the content, if that begins with nothing that goes on with a
+/// reference, which a URL at its end may begin (`BeginsUnjoined`).
 #[tactic(auto, using(crate::proofs::Marks::Commented::content_alone, crate::proofs::Marks::Commented::content_before))]
 pub fn texts_beside_nodes_make_no_lexeme()
     ensures alone { (s : Setting) (signs : List ContentSign) → IsReadIn s signs → page_items (spelled s signs) ≡ content_items s [] signs }
-    ensures before { (s : Setting) (signs : List ContentSign) (rest : List ℕ) → IsReadIn s signs → StandsBehind rest
+    ensures before { (s : Setting) (signs : List ContentSign) (rest : List ℕ) → IsReadIn s signs → StandsBehind rest → BeginsUnjoined rest
         → page_items (spelled s signs ++ rest) ≡ content_items s [] signs ++ page_items rest }
 {}
 
@@ -318,11 +320,11 @@ pub fn what_is_sent_is_what_is_shown()
         → content_shown (signs_of_all p pl (sent_pieces ps)) rest ≡ pieces_before ps rest }
 {}
 
-/// Such a content is UTF-8, and as a page it calls nothing, whatever the folder has: nothing is expanded in it, and nothing refuses
-/// it. Asked is that the source of each node is UTF-8, and that no two braces are side by side in it, outside of its lexemes (`AreCalm`).
+/// Such a content is UTF-8 if the source of each node is (`AreUtf8Nodes`); and as a page it calls nothing, whatever the folder has, if also
+/// no two braces are side by side in it, outside of its lexemes (`AreCalm`): nothing is expanded in it, and nothing refuses it.
 #[tactic(auto, using(crate::proofs::CalmContents::content_utf8, crate::proofs::CalmContents::content_expanded, crate::proofs::CalmContents::content_unrefused))]
 pub fn texts_beside_nodes_call_nothing()
-    ensures utf8 { (s : Setting) (signs : List ContentSign) → AreCharacters signs → AreCalm signs → IsUtf8 (spelled s signs) }
+    ensures utf8 { (s : Setting) (signs : List ContentSign) → AreCharacters signs → AreUtf8Nodes signs → IsUtf8 (spelled s signs) }
     ensures expanded { (pages : Pages) (s : Setting) (signs : List ContentSign) → IsReadIn s signs → AreCalm signs
         → expanded_page pages (spelled s signs) ≡ of_items (page_items (spelled s signs)) }
     ensures unrefused { (pages : Pages) (s : Setting) (signs : List ContentSign) → IsReadIn s signs → AreCalm signs

@@ -29,7 +29,7 @@ ghost use Rattle.wt_text_edit_laws.specs.ParagraphBetween.{AreClosed, before_mar
 ghost use Rattle.wt_text_edit_laws.specs.ParagraphParts.{para_with};
 ghost use Rattle.wt_text_edit_laws.specs.TextBlocks.{TextBlock, a_paragraph, block_items, block_tree};
 ghost use Rattle.wt_text_edit_laws.specs.TypedHeadings.{Sides, AreSides, heading_line, IsOfLevel, IsHeadingInside, EndsLine};
-ghost use Rattle.wt_beside_laws.specs.Calm.{AreCalm};
+ghost use Rattle.wt_beside_laws.specs.Calm.{AreUtf8Nodes};
 ghost use Rattle.wt_beside_laws.specs.Content.{AreKept};
 ghost use Rattle.wt_beside_laws.specs.ContentEdits.{new_content, MakesContent};
 ghost use Rattle.wt_beside_laws.specs.FlatBlocks.{lines_in, signs_in as signs_of};
@@ -165,12 +165,12 @@ pub fn texts_sent_in_styles_are_such()
 {}
 
 /// A content that is read by itself (`IsContent`) and calls nothing is such a one with bold and italic or without (`IsStyledIn`) where the source of
-/// each form of its lines stands whatever is written behind it (`AreKept`) and brings no calls (`AreCalm`), and each is a node (`AreHeldLines`). So
+/// each form of its lines stands whatever is written behind it (`AreKept`) and is UTF-8 (`AreUtf8Nodes`), and each is a node (`AreHeldLines`). So
 /// each is read by itself as it is in its line, and none ends in an open tag.
 #[tactic(auto, using(crate::proofs::Styled::OldShut::content_styled))]
 pub fn contents_of_nodes_that_stay_take_styles()
     ensures { (k : TextBlock) (q : List ℕ) → IsContent k q → CallsNothing (block_items k q) → AreHeldLines (lines_in k q)
-        → AreKept (signs_of k q) → AreCalm (signs_of k q) → IsStyledIn k q }
+        → AreKept (signs_of k q) → AreUtf8Nodes (signs_of k q) → IsStyledIn k q }
 {}
 
 /// A paragraph or a heading with bold and italic (`IsStyledIn`) holds a content that is read by itself, whatever is round it; and what is written

@@ -39,8 +39,7 @@ pub fn untangled_paragraphs_of_the_body_are_contents()
 /// A content that is read by itself and calls nothing, as each of these is (`untangled_blocks_are_contents`), takes texts beside its
 /// nodes, bold and italic (`IsStyledIn`): its lines are flat, the source of each node is UTF-8 and stands whatever is written behind
 /// it, and none ends in an open tag. Asked is of each node that each tag of an extension and `<nowiki>` in its source has its closing
-/// tag there, that a bare URL doesn't end with a `&` and the first letters of an entity's name or a number's digits, and that no two
-/// braces are side by side in it (`AreEndedNodes`).
+/// tag there (`AreEndedNodes`).
 #[tactic(auto, using(crate::proofs::Own::Kept::content_styled))]
 pub fn contents_read_by_themselves_take_styles()
     ensures { (k : TextBlock) (q : List ℕ) → IsContent k q → CallsNothing (block_items k q) → AreEndedNodes (signs_in k q)

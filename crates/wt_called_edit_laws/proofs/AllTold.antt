@@ -34,8 +34,13 @@ pub mod AllAlone
 pub mod CallingStarts
 pub mod OnLines
 pub mod CalmPages
+pub mod CalmCalls
 pub mod BlockBytes
 pub mod CallingBytes
+pub mod NodeLines
+pub mod OnTold
+pub mod OwnBytes
+pub mod KnownLines
 pub mod CallingTogether
 pub mod CallingCases
 mod EndCases

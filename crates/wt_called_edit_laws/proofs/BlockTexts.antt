@@ -87,11 +87,15 @@ placed_flat calls t =
     let u : Tree = placed calls (group_data calls) (tree_items t) (grouped (tree_items t) 0 t) in
     flat_numbered 1 (cut_texts u) ∙ cut_source u
 
-pub block_flat : (calls : List OuterCall) (t : ItemTree) → HoldsItsCalls t → flat (cut_texts (block_in calls t)) ≡ text_from calls None (tree_items t)
-block_flat calls t h =
+-- of one that is clean
+pub clean_flat : (calls : List OuterCall) (t : ItemTree) → clean_at None None t ≡ true → flat (cut_texts (block_in calls t)) ≡ text_from calls None (tree_items t)
+clean_flat calls t clean =
     cut_source (block_in calls t)
     ∙ flat_same (walked calls (group_data calls) None 0 None t)
     ∙ ap flat (walk_all calls (group_data calls) t)
     ∙ sym (placed_flat calls t)
-    ∙ annotated_source calls (group_data calls) t (clean_alone t h.clean)
+    ∙ annotated_source calls (group_data calls) t (clean_alone t clean)
     ∙ page_is calls (tree_items t)
+
+pub block_flat : (calls : List OuterCall) (t : ItemTree) → HoldsItsCalls t → flat (cut_texts (block_in calls t)) ≡ text_from calls None (tree_items t)
+block_flat calls t h = clean_flat calls t h.clean

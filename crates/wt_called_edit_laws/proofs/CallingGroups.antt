@@ -11,6 +11,7 @@ use Rattle.wt_part_laws.specs.Expanded.{part_items}
 use Rattle.wt_part_laws.specs.Placeless.{placeless, all_placeless}
 use Rattle.wt_called_edit_laws.specs.CalledContents.{tree_round}
 use Rattle.wt_called_edit_laws.specs.Nodes.{IsBlock, AreBlocks, NodesStayRound}
+use Rattle.wt_called_edit_laws.proofs.Parts.LessBraces.{less_after}
 use Rattle.wt_called_edit_laws.proofs.CutFrames.{nodes_stay_round}
 use Rattle.wt_part_laws.specs.Frames.{Frames, all_places}
 use Rattle.wt_text_edit_laws.specs.BlockSpots.{BlockSpot, spots_source, SameRound}
@@ -24,7 +25,7 @@ use Rattle.wt_part_laws.proofs.MovedData.{moved_data}
 use Rattle.wt_called_edit_laws.specs.CalledBlocks.{counted}
 use Rattle.wt_called_edit_laws.specs.CallingBlocks.{IsNewContentIn, AreEdited, AreCallingBlocks, tree_with_calls, CallingBlocksStand}
 use Rattle.wt_called_edit_laws.specs.CallingGroups.{AreCallingOutside, CallingGroupsStay, CallingNodesStay}
-use Rattle.wt_called_edit_laws.specs.Parts.{calls_to, calls_past, called_outers, work_in}
+use Rattle.wt_called_edit_laws.specs.Parts.{left_of, calls_to, calls_past, called_outers, work_in}
 use Rattle.wt_called_edit_laws.specs.Retyped.{IsPartAnew}
 use Rattle.wt_called_edit_laws.proofs.Cells.CallingFrames.{edited_anew, calling_again}
 use Rattle.wt_called_edit_laws.proofs.Cells.SpotTrees.{counted_same}
@@ -126,7 +127,7 @@ part_after : (pages : Pages) (k : TextBlock) (was now last : List ℕ) → IsPar
 part_after pages k was now last h g = record {
   read = anew_after k was now last h.read g.read;
   anywhere = g.anywhere;
-  left = g.left;
+  left = less_after (left_of (source_of k now)) (left_of (source_of k was)) (left_of (source_of k last)) h.left g.left;
   undeep = λ d. g.undeep (h.undeep d);
   work = some_after (work_in pages (source_of k last)) (work_in pages (source_of k now)) (work_in pages (source_of k was)) g.work h.work;
 }

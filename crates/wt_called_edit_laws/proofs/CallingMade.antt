@@ -29,6 +29,7 @@ use Rattle.wt_text_edit_laws.proofs.Blocks.BlockReading.{HasFrame, content_frame
 use Rattle.wt_text_edit_laws.proofs.Blocks.Contents.{typed_new}
 use Rattle.wt_text_edit_laws.proofs.Blocks.Contents.{block_source as source_is}
 use Rattle.wt_text_edit_laws.proofs.Blocks.OwnContents.{content_own}
+use Rattle.wt_text_edit_laws.proofs.Blocks.TypedBraces.{new_calm}
 use Rattle.wt_called_edit_laws.specs.CalledContents.{tree_round, StayText}
 use Rattle.wt_called_edit_laws.specs.CalledEdits.{MakesContentIn}
 use Rattle.wt_called_edit_laws.specs.CallingBlocks.{IsNewContentIn, AreEdited}
@@ -54,7 +55,7 @@ use Rattle.wt_called_edit_laws.proofs.Cells.PlaceGaps.{type_a, type_b}
 use Rattle.wt_called_edit_laws.proofs.CutFrames.{block_is}
 use Rattle.wt_called_edit_laws.proofs.Leads.{plain_so, edit_at}
 use Rattle.wt_called_edit_laws.proofs.Parts.NoCallsCalled.{calm_outers, calm_texts, calm_items}
-use Rattle.wt_called_edit_laws.proofs.Parts.Retyped.{firm_calm, part_anew}
+use Rattle.wt_called_edit_laws.proofs.Parts.Retyped.{part_anew}
 use Rattle.wt_called_edit_laws.proofs.SettledEdits.{AreOfBlocks, block_kind, kind_there}
 use Rattle.wt_called_edit_laws.proofs.SpotSources.{grouped_at}
 use Rattle.wt_called_edit_laws.proofs.StandingSettled.{some_items, standing_settled}
@@ -91,7 +92,7 @@ calm_new : (pages : Pages) (k : TextBlock) (was now : List ℕ) → IsContent k 
     → IsNewContentIn pages k was now
 calm_new pages k was now c calm n =
     let new : IsContent k now = n.firm.content in
-    let none : CallsNothing (block_items k now) = firm_calm k now n.firm in
+    let none : CallsNothing (block_items k now) = new_calm k was now n in
     let text = new_anywhere k was now n in
     record {
       part = part_anew pages k was now n;
@@ -103,7 +104,7 @@ calm_new pages k was now c calm n =
 
 calm_letter : (pages : Pages) (k : TextBlock) (q now : List ℕ) → IsContent k q → CallsNothing (block_items k q) → IsNewContent k q now
     → IsNewContentIn pages k q now × HoldsAnywhere pages k now
-calm_letter pages k q now c calm n = (calm_new pages k q now c calm n, calm_anywhere pages k now n.firm.content (firm_calm k now n.firm))
+calm_letter pages k q now c calm n = (calm_new pages k q now c calm n, calm_anywhere pages k now n.firm.content (new_calm k q now n))
 
 pub calm_letters : (pages : Pages) (k : TextBlock) (q : List ℕ) → IsContent k q → CallsNothing (block_items k q) → TakesLetters pages k q
 calm_letters pages k q c calm =
@@ -132,7 +133,7 @@ calm_made : (pages : Pages) (k : TextBlock) (q : List ℕ) (e : Edited) → IsCo
 calm_made pages k q e c calm h =
     let now : List ℕ = content_of e in
     let new : IsContent k now = h.new.firm.content in
-    let none : CallsNothing (block_items k now) = firm_calm k now h.new.firm in
+    let none : CallsNothing (block_items k now) = new_calm k q now h.new in
     record {
       taken = h.taken;
       inline = h.inline;

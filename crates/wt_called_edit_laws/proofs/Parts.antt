@@ -2,6 +2,8 @@
 pub mod LeftBraces
 pub mod Seams
 pub mod CalmBraces
+pub mod KeptBraces
+pub mod LessBraces
 pub mod Depths
 pub mod PartByPart
 pub mod CalledAgain

@@ -1,19 +1,25 @@
 -- Each paragraph and heading of a page's tree, with calls in it or without, by the lines of the expanded page: by these it may be edited, at its path.
-use Rattle.std.specs.Prelude.{◌≡◌, ℕ, ◌+◌, List, [], ◌∷◌, ◌++◌}
-use Rattle.wt_span.specs.Items.{Item}
+use Rattle.std.specs.Prelude.{◌≡◌, ℕ, ◌+◌, true, None, List, [], ◌∷◌, ◌++◌}
+use Rattle.std.specs.List.{AllByRecursion}
+use Rattle.wt_span.specs.Items.{Item, is_mark, call_of}
+use Rattle.wt_span.specs.Origins.{Expanded}
 use Rattle.wt_tree.specs.Tree.{Tree, label}
+use Rattle.wt_annotated.specs.Seams.{last_of}
 use Rattle.wt_expand.specs.PageCalls.{expanded_page}
 use Rattle.wt_expand.specs.Work.{Pages}
-use Rattle.wt_lines.specs.Lines.{full_lines}
+use Rattle.wt_lines.specs.Lines.{full_lines, is_break_item}
 use Rattle.wt_tables.specs.Parts.{joined}
 use Rattle.wt_typed_blocks.specs.Sent.{kind_of}
+use Rattle.wt_text_edit_laws.specs.ParagraphParts.{break}
 use Rattle.wt_text_edit_laws.specs.TextBlocks.{TextBlock, block_of}
 use Rattle.wt_called_edit_laws.specs.AllTold.{IsExceptedAt, IsOneOf}
 use Rattle.wt_called_edit_laws.specs.CallingContents.{TakesContentsIn}
-use Rattle.wt_called_edit_laws.specs.LinedAmong.{spots_of_lines, end_of_lines}
+use Rattle.wt_called_edit_laws.specs.LinedAmong.{spots_of_lines, end_of_lines, AreOfPage}
 use Rattle.wt_called_edit_laws.specs.LinedCalling.{AreCallingLined, IsLinedCalling}
-use Rattle.wt_called_edit_laws.specs.PlacedLines.{LinedBlock}
+use Rattle.wt_called_edit_laws.specs.PlacedLines.{LinedBlock, all_lines}
 use Rattle.wt_called_edit_laws.specs.RowBlocks.{StandsIn, opened_len}
+use Rattle.wt_called_edit_laws.specs.ToldLines.{Told, lined, AreTold}
+use Rattle.wt_called_edit_laws.specs.ToldTogether.{start_of}
 
 -- The contents of this block, told by the page's lines, may be edited at its path, which is this one.
 pub record TakesThere (pages : Pages) (page : List ℕ) (p : List ℕ) (b : LinedBlock) (behind : List (List Item)) : Type 0 where
@@ -43,3 +49,26 @@ pub record IsOnLines (pages : Pages) (page : List ℕ) (p : List ℕ) (t : Tree)
 pub record IsExceptedByLines (pages : Pages) (page : List ℕ) (t : Tree) : Type 0 where
   pub stands : StandsIn pages page t
   pub by_lines : IsExceptedAt (full_lines (expanded_page pages page).items) (opened_len stands.before)
+
+-- ---- what calls except
+
+-- Behind these items neither the line break before a block's lines, nor the marks that begin them, nor a line break in them comes from a call.
+pub record IsBesideOwn (front : List Item) (t : Told) : Type 0 where
+  pub ends : last_of None front ≡ None
+  pub marks : AreOfPage (lined t).marks
+  pub breaks : AllByRecursion (λ x. is_break_item x ≡ true → x ≡ break) (joined ((lined t).first ∷ (lined t).more))
+
+-- it is no line break and no mark that a call gives
+abbrev pub IsNoBreakOfCall : Item → Type 0
+IsNoBreakOfCall x = (is_break_item x ≡ true → x ≡ break) × (is_mark x ≡ true → call_of x ≡ None)
+
+-- Of an expanded page, behind so many items: one that lines don't tell, or a block for which a call gives one of these.
+pub data IsExceptedWithCalls (e : Expanded) (at : ℕ) : Type 0 where
+  on_a_sign : IsExceptedAt (full_lines e.items) at → IsExceptedWithCalls e at
+  broken_by_a_call : (t : Told) (behind : List (List Item)) → full_lines e.items ≡ all_lines (lined t ∷ []) behind → AreTold (t ∷ []) behind → at ≡ start_of 0 t
+      → (IsBesideOwn (joined (lined t).before) t → ⊥) → IsExceptedWithCalls e at
+
+-- a node of a page's tree that begins so, with calls in it or without
+pub record IsExceptedCalling (pages : Pages) (page : List ℕ) (t : Tree) : Type 0 where
+  pub stands : StandsIn pages page t
+  pub begins_so : IsExceptedWithCalls (expanded_page pages page) (opened_len stands.before)

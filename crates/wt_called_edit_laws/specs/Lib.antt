@@ -39,6 +39,7 @@ pub mod CallingGroups
 pub mod CallingEdits
 pub mod CallingContents
 pub mod EditableBlocks
+pub mod EditableNodes
 pub mod CalledEdits
 pub mod InPieces
 pub mod PageThings

@@ -22,6 +22,7 @@ use Rattle.wt_beside_laws.specs.Cuts.{own_glyphs}
 use Rattle.wt_beside_laws.specs.Kept.{IsKept}
 use Rattle.wt_beside_laws.specs.Nodes.{IsNode}
 use Rattle.wt_beside_laws.specs.PageSigns.{HasNoBreak}
+use Rattle.wt_beside_laws.specs.References.{ReferencesEnd}
 use Rattle.wt_called_edit_laws.specs.Parts.{left_of, work_in}
 
 -- ---- the source of a node
@@ -44,9 +45,10 @@ pub record IsCallSource (bs : List ℕ) : Type 0 where
   pub is : bs ≡ byte.opening_brace ∷ others
   pub settles : (rest : List ℕ) → BeginsUnclosed rest → Settles (lexer Page) rest false 0 bs
 
--- another node on one line that stands whatever is written behind it, by its parts, a comment, or a node that is read as it is whatever is behind it
+-- another node on one line that stands whatever is written behind it, by its parts, a comment, or a node that is read as it is whatever is behind it; no
+-- reference may begin at its end
 abbrev pub IsHeldInLine : List ℕ → Type 0
-IsHeldInLine source = (IsKept source × HasNoBreak (page_items source)) ⊎ (IsCommentSource source ⊎ IsReadInLine source)
+IsHeldInLine source = (IsKept source × HasNoBreak (page_items source)) ⊎ (IsCommentSource source ⊎ (IsReadInLine source × ReferencesEnd source))
 
 -- it stays what it is beside text that is typed; a mark is within its line
 pub record IsReadThing (t : Thing) : Type 0 where

@@ -9,7 +9,7 @@ ghost use Rattle.wt_page.specs.Rows.{Row};
 ghost use Rattle.wt_text_edit_laws.specs.BlockSpots.{spots_source};
 ghost use Rattle.wt_text_edit_laws.specs.BodyParagraphs.{IsParagraphAt, spot_at, IsFreeParagraph};
 ghost use Rattle.wt_text_edit_laws.specs.TextBlocks.{a_paragraph};
-ghost use Rattle.wt_beside_laws.specs.Calm.{AreCalm};
+ghost use Rattle.wt_beside_laws.specs.Calm.{AreUtf8Nodes};
 ghost use Rattle.wt_beside_laws.specs.Content.{AreKept};
 ghost use Rattle.wt_beside_laws.specs.HeldLines.{AreHeldLines};
 ghost use Rattle.wt_beside_laws.specs.PageSigns.{signs_of_lines};
@@ -38,12 +38,12 @@ pub fn paragraphs_of_the_body_are_edited()
         → TakesContents pages (spot_at p.before p.own ∷ []) (sources p.rest) }
 {}
 
-/// Where each form in its lines is a node (`AreHeldLines`) whose source stands whatever is written behind it (`AreKept`) and brings no calls
-/// (`AreCalm`), its nodes may stay, in their order, with any texts between them, and its bold and italic (`IsStyledIn`): so these contents may be
+/// Where each form in its lines is a node (`AreHeldLines`) whose source stands whatever is written behind it (`AreKept`) and is UTF-8
+/// (`AreUtf8Nodes`), its nodes may stay, in their order, with any texts between them, and its bold and italic (`IsStyledIn`): so these contents may be
 /// sent, too (`Fits`).
 #[tactic(auto, using(crate::proofs::Cells::TakenParagraphs::body_styled))]
 pub fn nodes_of_paragraphs_of_the_body_stay()
     ensures { (page : List ℕ) (r : Row) (rs : List Row) (p : IsParagraphAt (page_items page) r rs) → IsFreeParagraph page p.own p.rest
-        → AreHeldLines (lines p.own) → AreKept (signs_of_lines 0 (lines p.own)) → AreCalm (signs_of_lines 0 (lines p.own))
+        → AreHeldLines (lines p.own) → AreKept (signs_of_lines 0 (lines p.own)) → AreUtf8Nodes (signs_of_lines 0 (lines p.own))
         → IsStyledIn a_paragraph (sources p.own) }
 {}

@@ -2,6 +2,7 @@
 //! the page.
 
 ghost use Rattle.std.specs.Prelude.{◌≡◌, ◌≤◌, ◌⊎◌, false, None, List, [], ◌∷◌, ◌++◌, ℕ, length, map};
+ghost use Rattle.std.specs.List.{AllByRecursion};
 ghost use Rattle.std.specs.Str.{IsUtf8};
 ghost use Rattle.wt_span.specs.Items.{Item, sources};
 ghost use Rattle.wt_span.specs.Origins.{Expanded};
@@ -24,8 +25,8 @@ ghost use Rattle.wt_beside_laws.specs.FlatBlocks.{signs_in};
 ghost use Rattle.wt_beside_laws.specs.StyledIn.{IsStyledIn};
 ghost use Rattle.wt_called_edit_laws.specs.AllTold.{AllBlocksTold, IsExcepted, IsExceptedAt};
 ghost use Rattle.wt_called_edit_laws.specs.CalledPages.{IsCalledPage};
-ghost use Rattle.wt_called_edit_laws.specs.CallingTogether.{AreOnLines};
-ghost use Rattle.wt_called_edit_laws.specs.CallingTold.{IsOnLines, IsExceptedByLines};
+ghost use Rattle.wt_called_edit_laws.specs.CallingTogether.{EachEditable, TakeThere};
+ghost use Rattle.wt_called_edit_laws.specs.CallingTold.{IsOnLines, IsExceptedByLines, IsNoBreakOfCall, IsExceptedCalling};
 ghost use Rattle.wt_called_edit_laws.specs.EditsAt.{IsStanding, AllStand};
 ghost use Rattle.wt_called_edit_laws.specs.Groups.{called_tree};
 ghost use Rattle.wt_called_edit_laws.specs.LinedAmong.{IsLinedAmong};
@@ -103,9 +104,12 @@ pub fn each_block_is_told_or_excepted()
 {}
 
 /// On a page that calls nothing no block is excepted for a call, a function or braces: those that aren't told there are as
-/// `IsExceptedAt` names them.
+/// `IsExceptedAt` names them. So it is with blocks that may hold calls, where no call gives a line break or a mark.
 pub fn calls_except_no_block_where_there_are_none()
     ensures calm { (pages : Pages) (page : List ℕ) (t : Tree) → CallsNothing (page_items page) → IsExcepted pages page t
+        → (s : StandsIn pages page t) × IsExceptedAt (full_lines (expanded_page pages page).items) (opened_len s.before) }
+    ensures words { (pages : Pages) (page : List ℕ) (t : Tree)
+        → AllByRecursion IsNoBreakOfCall (expanded_page pages page).items → IsExceptedCalling pages page t
         → (s : StandsIn pages page t) × IsExceptedAt (full_lines (expanded_page pages page).items) (opened_len s.before) }
 {}
 
@@ -117,8 +121,10 @@ pub fn each_block_is_on_its_lines()
         → IsTextBlock (label t).kind → IsOnLines pages page p t ⊎ IsExceptedByLines pages page t }
 {}
 
-/// So with any number of them at once: the nodes at some paths are on lines of the expanded page, one behind the other
-/// (`AreOnLines`), and where by these they may be edited with their calls, it is at these paths.
+/// So with any number of them at once, by what each is alone: those at some paths, none of which is excepted or tangled, and
+/// whose contents may be edited, with their calls or without (`IsEditableAt`), are told by lines of the expanded page, one
+/// behind the other, and may be edited at these paths (`TakeThere`).
 pub fn blocks_are_on_their_lines_together()
-    ensures together { (pages : Pages) (page : List ℕ) (ps : List (List ℕ)) → AreOnLines pages page ps }
+    ensures together { (pages : Pages) (page : List ℕ) (ps : List (List ℕ)) → IsUtf8 page → refusal_of_page pages page ≡ None
+        → 1 ≤ length ps → EachEditable pages page ps → TakeThere pages page ps }
 {}

@@ -1,13 +1,9 @@
 -- A text edit of paragraphs and headings that may hold calls is done, and is local.
-use Rattle.std.proofs.Common.{arith, ◌≡◌, ℕ, ◌≤◌, Option, Some, None, List, [], ◌∷◌, ◌++◌, length, map, refl, sym, ap, ◌∙◌, subst, inl, inr}
-use Rattle.std.specs.Prelude.{◌⊎◌}
+use Rattle.std.proofs.Common.{arith, ◌≡◌, ℕ, ◌≤◌, Option, Some, None, List, [], ◌∷◌, length, sym, ap, subst, inr}
 use Rattle.std.specs.List.{AllByRecursion}
 use Rattle.std.specs.Str.{IsUtf8}
 use Rattle.wt_span.specs.declared.limits.TheConstants.{HTML_BYTES, PAGE_BYTES}
 use Rattle.wt_span.specs.Items.{Item}
-use Rattle.wt_span.specs.Origins.{OuterCall}
-use Rattle.wt_page.specs.Lines.{ending}
-use Rattle.wt_tables.specs.Parts.{joined}
 use Rattle.wt_tree.specs.Tiling.{is_group}
 use Rattle.wt_tree.specs.Tree.{Tree, label}
 use Rattle.wt_expand.specs.PageCalls.{expanded_page}
@@ -20,23 +16,16 @@ use Rattle.wt_visible.specs.SameNodes.{same_node}
 use Rattle.wt_commands.specs.Answers.{refusal_of_page, done, remarked_of, edit_of, edit_to}
 use Rattle.wt_commands.specs.UnmarkedEdits.{DoneByEdit}
 use Rattle.wt_typed_blocks.specs.Edited.{Edits}
-use Rattle.wt_text_edit_laws.specs.Contents.{IsContent}
-use Rattle.wt_text_edit_laws.specs.NoCalls.{CallsNothing}
-use Rattle.wt_text_edit_laws.specs.TextBlocks.{TextBlock, a_paragraph, a_heading, block_items}
+use Rattle.wt_text_edit_laws.specs.TextBlocks.{TextBlock, a_paragraph, a_heading}
 use Rattle.wt_called_edit_laws.specs.AllTold.{IsOneOf as IsAnyOf}
-use Rattle.wt_called_edit_laws.specs.CallingBlocks.{IsContentIn, AreContentsInFolder}
 use Rattle.wt_called_edit_laws.specs.CallingContents.{TakesContentsIn}
-use Rattle.wt_called_edit_laws.specs.CallingTogether.{AreOnTold, TakeThere, AreOnLines}
-use Rattle.wt_called_edit_laws.specs.CallingTold.{IsExceptedByLines}
-use Rattle.wt_called_edit_laws.specs.EditableBlocks.{HoldsCalls, IsEditableContent, AreEditableContents}
+use Rattle.wt_called_edit_laws.specs.CallingTogether.{EachEditable, TakeThere}
+use Rattle.wt_called_edit_laws.specs.EditableNodes.{IsEditable}
 use Rattle.wt_called_edit_laws.specs.Groups.{called_tree}
-use Rattle.wt_called_edit_laws.specs.LinedAmong.{spots_on, spots_of_lines, end_of_lines}
+use Rattle.wt_called_edit_laws.specs.LinedAmong.{spots_of_lines, end_of_lines}
 use Rattle.wt_called_edit_laws.specs.LinedCalling.{IsLinedCalling}
-use Rattle.wt_called_edit_laws.specs.PlacedLines.{LinedBlock, all_lines}
-use Rattle.wt_called_edit_laws.specs.ToldLines.{Told, lined}
-use Rattle.wt_called_edit_laws.specs.ToldTogether.{AreSome}
+use Rattle.wt_called_edit_laws.specs.PlacedLines.{LinedBlock}
 use Rattle.wt_called_edit_laws.proofs.AllTold.CallingTogether.{lines_together}
-use Rattle.wt_called_edit_laws.proofs.Cells.CallingFrames.{content_in}
 use Rattle.wt_called_edit_laws.proofs.Headings.Pieced.{pieced_heading, pieced_heading_holds}
 use Rattle.wt_called_edit_laws.proofs.Headings.TextAndCalls.{heading_pieced}
 use Rattle.wt_called_edit_laws.proofs.PageBody.{page_body}
@@ -44,7 +33,7 @@ use Rattle.wt_called_edit_laws.proofs.Whole.Pieced.{pieced_content, pieced_holds
 use Rattle.wt_called_edit_laws.proofs.Whole.TextAndCalls.{pieced}
 use Rattle.wt_inside_laws.specs.AsSent.{edits_of, paths_of, node_at, AreSomeOf}
 use Rattle.wt_inside_laws.specs.BesideEdits.{IsBesideBlock, IsBesideEdit}
-use Rattle.wt_inside_laws.specs.EditsWithCalls.{AreInTheirPieces, AreTextsAndCalls, IsEditable, AreToldBlocks, MayHoldCalls, MarksBlocksWithCalls, IsEditWithCalls, IsDifferenceWithCalls}
+use Rattle.wt_inside_laws.specs.EditsWithCalls.{AreInTheirPieces, AreTextsAndCalls, MayHoldCalls, MarksBlocksWithCalls, IsEditWithCalls, IsDifferenceWithCalls}
 use Rattle.wt_inside_laws.specs.LocalTextEdits.{IsLocalTextEdit}
 use Rattle.wt_inside_laws.specs.TextEdits.{IsRetyped}
 use Rattle.wt_inside_laws.specs.TypedBeside.{IsTypedIn}
@@ -59,99 +48,51 @@ use Rattle.wt_inside_laws.proofs.TypedBeside.{calling_typed_apart}
 
 -- ---- a marked block is at its path
 
-unexcepted : {A : Type 0} (pages : Pages) (page : List ℕ) (t : Tree) → (IsExceptedByLines pages page t → ⊥) → A ⊎ IsExceptedByLines pages page t → A
-unexcepted pages page t n (inl a) = a
-unexcepted pages page t n (inr x) = absurd (n x)
-
--- each path is one of all
-all_any : (qs ps : List (List ℕ)) → ((q : List ℕ) → IsAnyOf q qs → IsAnyOf q ps) → AllByRecursion (λ q. IsAnyOf q ps) qs
-all_any [] ps f = tt
-all_any (q ∷ qs) ps f = (f q (inl refl), all_any qs ps (λ r i. f r (inr i)))
-
-all_there : (pages : Pages) (page : List ℕ) (ps : List (List ℕ)) (bs : List LinedBlock) (behind : List (List Item)) (there : TakeThere pages page ps bs behind)
-    (qs : List (List ℕ)) (ms : List Pair) → AllByRecursion (λ q. IsAnyOf q ps) qs → AllByRecursion (Reaches (called_tree pages page)) qs
-    → nodes_at (called_tree pages page) qs ≡ olds ms → AllByRecursion (IsRetyped same_node (expanded_page pages page) page) ms
-    → AllByRecursion (MayHoldCalls pages page) ms → AreSomeOf qs there.taken.paths
-all_there pages page ps bs behind there [] ms a w e r h = tt
-all_there pages page ps bs behind there (q ∷ qs) [] a w e r h = absurd (let no = ap length e in omega (arith, no))
-all_there pages page ps bs behind there (q ∷ qs) (m ∷ ms) a w e r h =
-    let t : Tree = called_tree pages page in
-    let at : IsAnyOf q there.taken.paths =
-    unexcepted pages page m.old h.0.unexcepted
-    (there.there q m.old a.0 (w.0 m.old (first_same (node_at q t) (Some m.old) (nodes_at t qs) (olds ms) e)) (block_kind (label m.old).kind r.0.block)) in (
-      one_same q there.taken.paths at,
-      all_there pages page ps bs behind there qs ms a.1 w.1 (rest_same (node_at q t) (Some m.old) (nodes_at t qs) (olds ms) e) r.1 h.1,
-    )
-
-lines_some : (pages : Pages) (page : List ℕ) (ps : List (List ℕ)) (o : AreOnLines pages page ps) → IsUtf8 page → refusal_of_page pages page ≡ None
-    → (qs : List (List ℕ)) (ms : List Pair) → AllByRecursion (λ q. IsAnyOf q ps) qs → AllByRecursion (Reaches (called_tree pages page)) qs
-    → nodes_at (called_tree pages page) qs ≡ olds ms → AllByRecursion (IsRetyped same_node (expanded_page pages page) page) ms
-    → AllByRecursion (MayHoldCalls pages page) ms → 1 ≤ length ms → AreSome o.ts
-lines_some pages page ps o u f qs [] a w e r h le = absurd (omega (arith, le))
-lines_some pages page ps o u f [] (m ∷ ms) a w e r h le = absurd (let no = ap length e in omega (arith, no))
-lines_some pages page ps o u f (q ∷ qs) (m ∷ ms) a w e r h le =
-    let t : Tree = called_tree pages page in
-    unexcepted pages page m.old h.0.unexcepted
-    (o.some u f q m.old a.0 (w.0 m.old (first_same (node_at q t) (Some m.old) (nodes_at t qs) (olds ms) e)) (block_kind (label m.old).kind r.0.block))
-
 all_beside : (pages : Pages) (page : List ℕ) (ms : List Pair) → AllByRecursion (MayHoldCalls pages page) ms → AllByRecursion (IsBesideBlock pages page) ms
 all_beside pages page [] h = tt
 all_beside pages page (m ∷ ms) h = (h.0.beside, all_beside pages page ms h.1)
 
--- ---- the lines tell them
+-- and may be edited there
+each_editable : (pages : Pages) (page : List ℕ) (qs : List (List ℕ)) (ms : List Pair) → AllByRecursion (Reaches (called_tree pages page)) qs
+    → nodes_at (called_tree pages page) qs ≡ olds ms → AllByRecursion (IsRetyped same_node (expanded_page pages page) page) ms
+    → AllByRecursion (MayHoldCalls pages page) ms → EachEditable pages page qs
+each_editable pages page [] ms w e r h = tt
+each_editable pages page (q ∷ qs) [] w e r h = absurd (let no = ap length e in omega (arith, no))
+each_editable pages page (q ∷ qs) (m ∷ ms) w e r h =
+    let t : Tree = called_tree pages page in (
+      (
+        m.old,
+        record {
+          reached = w.0 m.old (first_same (node_at q t) (Some m.old) (nodes_at t qs) (olds ms) e);
+          block = block_kind (label m.old).kind r.0.block;
+          untangled = r.0.untangled;
+          unexcepted = h.0.unexcepted;
+          editable = h.0.editable;
+        },
+      ),
+      each_editable pages page qs ms w.1 (rest_same (node_at q t) (Some m.old) (nodes_at t qs) (olds ms) e) r.1 h.1,
+    )
 
-lines_same : (ts : List Told) (bs : List LinedBlock) (behind : List (List Item)) → AreOnTold ts bs → all_lines (map lined ts) behind ≡ all_lines bs behind
-lines_same [] [] behind o = refl
-lines_same [] (b ∷ bs) behind o = absurd o
-lines_same (t ∷ ts) [] behind o = absurd o
-lines_same (t ∷ ts) (b ∷ bs) behind o =
-    ap (λ (ls : List (List Item)). (lined t).before ++ ((((lined t).marks ++ (lined t).first) ∷ (lined t).more) ++ ls)) (lines_same ts bs behind o.1)
-    ∙ ap (λ (c : LinedBlock). c.before ++ (((c.marks ++ c.first) ∷ c.more) ++ all_lines bs behind)) (sym o.0.is)
+-- as many paths as blocks
+some_paths : (t : Tree) (qs : List (List ℕ)) (ms : List Pair) → nodes_at t qs ≡ olds ms → 1 ≤ length ms → 1 ≤ length qs
+some_paths t [] [] e le = le
+some_paths t [] (m ∷ ms) e le = absurd (let no = ap length e in omega (arith, no))
+some_paths t (q ∷ qs) ms e le = omega arith
 
-contents_of : (pages : Pages) (b : LinedBlock) → IsEditable pages b → IsContentIn pages b.block b.text × IsEditableContent pages b.block b.text
-contents_of pages b (inl c) = (content_in pages b.block b.text c.0 c.1, inl c)
-contents_of pages b (inr h) = (h.0, inr h.1)
+among_paths : (all ps : List (List ℕ)) → AllByRecursion (λ p. IsAnyOf p all) ps → AreSomeOf ps all
+among_paths all [] h = tt
+among_paths all (p ∷ ps) h = (one_same p all h.0, among_paths all ps h.1)
+
+-- ---- which contents are editable
 
 -- blocks in pieces are editable, those of texts and calls alone among them
-pub pieces_editable : (pages : Pages) (b : LinedBlock) → AreInTheirPieces pages b.block b.text → IsEditable pages b
-pieces_editable pages b h = by b.block h
-  where
-    by : (k : TextBlock) → AreInTheirPieces pages k b.text
-        → (IsContent k b.text × CallsNothing (block_items k b.text)) ⊎ (IsContentIn pages k b.text × HoldsCalls pages k b.text)
-    by a_paragraph x = inr (pieced_content pages b.text x, pieced_holds pages b.text x)
-    by (a_heading s) x = inr (pieced_heading pages s b.text x, pieced_heading_holds pages s b.text x)
+pub pieces_editable : (pages : Pages) (k : TextBlock) (q : List ℕ) → AreInTheirPieces pages k q → IsEditable pages k q
+pieces_editable pages a_paragraph q x = inr (pieced_content pages q x, pieced_holds pages q x)
+pieces_editable pages (a_heading s) q x = inr (pieced_heading pages s q x, pieced_heading_holds pages s q x)
 
-pub calls_editable : (pages : Pages) (b : LinedBlock) → AreTextsAndCalls pages b.block b.text → IsEditable pages b
-calls_editable pages b h = by b.block h
-  where
-    by : (k : TextBlock) → AreTextsAndCalls pages k b.text
-        → (IsContent k b.text × CallsNothing (block_items k b.text)) ⊎ (IsContentIn pages k b.text × HoldsCalls pages k b.text)
-    by a_paragraph x = let p = pieced pages b.text x in inr (pieced_content pages b.text p, pieced_holds pages b.text p)
-    by (a_heading s) x = let p = heading_pieced pages s b.text x in inr (pieced_heading pages s b.text p, pieced_heading_holds pages s b.text p)
-
-all_contents : (pages : Pages) (calls : List OuterCall) (es : List Item) (bs : List LinedBlock) → AllByRecursion (IsEditable pages) bs
-    → AreContentsInFolder pages (spots_on calls es bs) × AreEditableContents pages (spots_on calls es bs)
-all_contents pages calls es [] h = (tt, tt)
-all_contents pages calls es (b ∷ bs) h =
-    let c = contents_of pages b h.0 in
-    let r = all_contents pages calls (ending (joined (b.first ∷ b.more))) bs h.1 in
-    ((c.0, r.0), (c.1, r.1))
-
-told_lined : (pages : Pages) (page : List ℕ) (ps : List (List ℕ)) (o : AreOnLines pages page ps) → IsUtf8 page → refusal_of_page pages page ≡ None
-    → AreSome o.ts → (h : AreToldBlocks pages page ps o) → IsLinedCalling pages page h.bs o.behind
-told_lined pages page ps o utf8 unrefused some h =
-    let c = all_contents pages (expanded_page pages page).outer [] h.bs h.editable in
-    record {
-      utf8 = utf8;
-      are = o.are ∙ lines_same o.ts h.bs o.behind h.on;
-      lined = o.lined_so some h.bs h.on;
-      here = h.here;
-      contents = c.0;
-      editable = c.1;
-      apart = h.apart;
-      unrefused = unrefused;
-      free = h.free;
-    }
+pub calls_editable : (pages : Pages) (k : TextBlock) (q : List ℕ) → AreTextsAndCalls pages k q → IsEditable pages k q
+calls_editable pages a_paragraph q x = let p = pieced pages q x in inr (pieced_content pages q p, pieced_holds pages q p)
+calls_editable pages (a_heading s) q x = let p = heading_pieced pages s q x in inr (pieced_heading pages s q p, pieced_heading_holds pages s q p)
 
 -- ---- the edit
 
@@ -197,18 +138,14 @@ calls_told pages page new h some =
     let es : Edits = edits_of t new in
     let ps : List (List ℕ) = paths_of es in
     let e : OrdinarySent pages page new = h.sent in
-    let o : AreOnLines pages page ps = lines_together pages page ps in
     let body = page_body pages page h.utf8 h.unrefused in
     let reach : AllByRecursion (Reaches t) ps = edits_reach t es (ap is_group body.kind) e.sent.old e.sent.outside in
-    let lines : AreSome o.ts =
-    lines_some pages page ps o h.utf8 h.unrefused ps ms (all_any ps ps (λ q i. i)) reach e.sent.at h.edit.edit.blocks h.edit.blocks some in
-    let told : AreToldBlocks pages page ps o = h.edit.told some o in
-    let all : IsLinedCalling pages page told.bs o.behind = told_lined pages page ps o h.utf8 h.unrefused lines told in
-    let there : TakeThere pages page ps told.bs o.behind = o.takes told.bs told.on all in
+    let there : TakeThere pages page ps =
+    lines_together pages page ps h.utf8 h.unrefused (some_paths t ps ms e.sent.at some) (each_editable pages page ps ms reach e.sent.at h.edit.edit.blocks h.edit.blocks) in
     record {
-      bs = told.bs;
-      rest = o.behind;
-      lined = all;
+      bs = there.bs;
+      rest = there.behind;
+      lined = there.lined;
       taken = there.taken;
       edit = record {
         short = h.short;
@@ -216,7 +153,7 @@ calls_told pages page new h some =
         read = e.read;
         blocks = e.blocks;
         beside = all_beside pages page ms h.edit.blocks;
-        among = all_there pages page ps told.bs o.behind there ps ms (all_any ps ps (λ q i. i)) reach e.sent.at h.edit.edit.blocks h.edit.blocks;
+        among = among_paths there.taken.paths ps there.there;
       };
     }
 

@@ -1,5 +1,5 @@
 -- Text edits of paragraphs and headings of a page, which may hold calls: what is asked of them.
-use Rattle.std.specs.Prelude.{◌≡◌, ◌≤◌, ◌⊎◌, ℕ, Option, None, List, [], length}
+use Rattle.std.specs.Prelude.{◌≡◌, ◌≤◌, ℕ, Option, None, List, length}
 use Rattle.std.specs.List.{AllByRecursion}
 use Rattle.std.specs.Str.{IsUtf8}
 use Rattle.wt_span.specs.declared.limits.TheConstants.{PAGE_BYTES}
@@ -11,27 +11,12 @@ use Rattle.wt_schema.specs.Read.{page as as_page, read}
 use Rattle.wt_slices.specs.Changes.{Pair, marked}
 use Rattle.wt_visible.specs.SameNodes.{same_node}
 use Rattle.wt_commands.specs.Answers.{refusal_of_page, remarked_of}
-use Rattle.wt_text_edit_laws.specs.Contents.{IsContent}
-use Rattle.wt_text_edit_laws.specs.NoCalls.{CallsNothing}
-use Rattle.wt_text_edit_laws.specs.TextBlocks.{TextBlock, a_paragraph, a_heading, block_items}
-use Rattle.wt_called_edit_laws.specs.CallingBlocks.{IsContentIn}
-use Rattle.wt_called_edit_laws.specs.CallingTogether.{AreOnTold, AreOnLines}
-use Rattle.wt_called_edit_laws.specs.CallingTold.{IsExceptedByLines}
-use Rattle.wt_called_edit_laws.specs.Covered.{HaveFreeBytes}
-use Rattle.wt_called_edit_laws.specs.EditableBlocks.{HoldsCalls}
-use Rattle.wt_called_edit_laws.specs.Groups.{called_tree}
-use Rattle.wt_called_edit_laws.specs.LinedAmong.{spots_of_lines}
-use Rattle.wt_called_edit_laws.specs.LinedCalling.{AreCallingHere, AreApartFrom}
+use Rattle.wt_text_edit_laws.specs.TextBlocks.{TextBlock, a_paragraph, a_heading}
+use Rattle.wt_called_edit_laws.specs.CallingTold.{IsExceptedCalling}
+use Rattle.wt_called_edit_laws.specs.EditableNodes.{IsEditableNode}
 use Rattle.wt_called_edit_laws.specs.PiecedParagraphs.{IsInPieces, IsHeadingInPieces, IsTextAndCalls, IsHeadingOfCalls}
-use Rattle.wt_called_edit_laws.specs.PlacedLines.{LinedBlock}
-use Rattle.wt_inside_laws.specs.AsSent.{edits_of, paths_of}
 use Rattle.wt_inside_laws.specs.BesideEdits.{IsBesideBlock}
 use Rattle.wt_inside_laws.specs.TextEdits.{IsTextEdit}
-
--- A content is read by itself and calls nothing, or it holds calls, and is one in this folder that may be edited.
-abbrev pub IsEditable : Pages → LinedBlock → Type 0
-IsEditable pages b =
-    (IsContent b.block b.text × CallsNothing (block_items b.block b.text)) ⊎ (IsContentIn pages b.block b.text × HoldsCalls pages b.block b.text)
 
 -- as blocks in pieces are: each piece is a node of the page, or calls nothing
 abbrev pub AreInTheirPieces : Pages → TextBlock → List ℕ → Type 0
@@ -43,27 +28,17 @@ abbrev pub AreTextsAndCalls : Pages → TextBlock → List ℕ → Type 0
 AreTextsAndCalls pages a_paragraph q = IsTextAndCalls pages q
 AreTextsAndCalls pages (a_heading s) q = IsHeadingOfCalls pages s q
 
--- Where nodes of the page are on these lines, they tell them, with their calls or without: they are paragraphs and headings of these sources, each by
--- itself what it is on the page; no call that is text touches one; and each has a byte that no group of the page has.
-pub record AreToldBlocks (pages : Pages) (page : List ℕ) (paths : List (List ℕ)) (o : AreOnLines pages page paths) : Type 0 where
-  pub bs : List LinedBlock
-  pub on : AreOnTold o.ts bs
-  pub here : AreCallingHere (expanded_page pages page).outer bs
-  pub editable : AllByRecursion (IsEditable pages) bs
-  pub apart : AreApartFrom (expanded_page pages page).outer (expanded_page pages page).text_calls 0 [] bs
-  pub free : HaveFreeBytes 0 (spots_of_lines pages page bs) (called_tree pages page)
-
--- The lines of a marked block can tell it, and it calls nothing and is ordinary, or texts may be typed beside its calls.
+-- A marked block is none of those that lines or calls except, its content may be edited, and it calls nothing and is ordinary, or texts may be typed beside
+-- its calls.
 pub record MayHoldCalls (pages : Pages) (page : List ℕ) (p : Pair) : Type 0 where
-  pub unexcepted : IsExceptedByLines pages page p.old → ⊥
+  pub unexcepted : IsExceptedCalling pages page p.old → ⊥
+  pub editable : IsEditableNode pages p.old
   pub beside : IsBesideBlock pages page p
 
--- A text edit of a page that isn't refused: each marked block is such a one, and the lines on which these are tell them.
+-- A text edit of a page that isn't refused: each marked block is such a one.
 pub record MarksBlocksWithCalls (pages : Pages) (page : List ℕ) (new : Tree) : Type 0 where
   pub edit : IsTextEdit same_node (expanded_page pages page) page (page_tree pages page) new
   pub blocks : AllByRecursion (MayHoldCalls pages page) (marked (page_tree pages page) new)
-  pub told : 1 ≤ length (marked (page_tree pages page) new) → (o : AreOnLines pages page (paths_of (edits_of (called_tree pages page) new)))
-      → AreToldBlocks pages page (paths_of (edits_of (called_tree pages page) new)) o
 
 -- HTML is read as such an edit.
 pub record IsEditWithCalls (pages : Pages) (page input : List ℕ) (new : Tree) (unsourced : Option ℕ) : Type 0 where

@@ -23,15 +23,17 @@ ghost use Rattle.wt_splice.specs.Splice.{spliced};
 ghost use Rattle.wt_commands.specs.Answers.{refusal_of_page, done, remarked_of, html_answer, edit_of, edit_to};
 ghost use Rattle.wt_schema.specs.Written.{unranged};
 ghost use Rattle.wt_commands.specs.UnmarkedEdits.{DoneByEdit};
+ghost use Rattle.wt_text_edit_laws.specs.TextBlocks.{TextBlock};
 ghost use Rattle.wt_called_edit_laws.specs.CallingContents.{TakesContentsIn};
 ghost use Rattle.wt_called_edit_laws.specs.ContentsTaken.{TakesContents};
+ghost use Rattle.wt_called_edit_laws.specs.EditableNodes.{IsEditable};
 ghost use Rattle.wt_called_edit_laws.specs.Groups.{called_tree};
 ghost use Rattle.wt_called_edit_laws.specs.LinedAmong.{spots_of_lines, end_of_lines, IsLinedAmong};
 ghost use Rattle.wt_called_edit_laws.specs.LinedCalling.{IsLinedCalling};
 ghost use Rattle.wt_called_edit_laws.specs.PlacedLines.{LinedBlock};
 ghost use Rattle.wt_inside_laws.specs.AsSent.{edits_of, IsPlainPage, IsReadFor, IsAlike, IsAsSent, IsSentOn};
 ghost use Rattle.wt_inside_laws.specs.BesideEdits.{IsBesideEdit, IsBesideHtml};
-ghost use Rattle.wt_inside_laws.specs.EditsWithCalls.{AreInTheirPieces, AreTextsAndCalls, IsEditable, IsEditWithCalls, IsDifferenceWithCalls};
+ghost use Rattle.wt_inside_laws.specs.EditsWithCalls.{AreInTheirPieces, AreTextsAndCalls, IsEditWithCalls, IsDifferenceWithCalls};
 ghost use Rattle.wt_inside_laws.specs.HtmlEdits.{IsHtmlEdit};
 ghost use Rattle.wt_inside_laws.specs.LocalTextEdits.{IsLocalTextEdit};
 ghost use Rattle.wt_inside_laws.specs.RetypedPieces.{AreRead, AreUtf8};
@@ -129,8 +131,8 @@ pub fn text_edits_are_done()
         → IsOrdinaryEdit pages page bytes (unranged (called_tree pages page)) None }
 {}
 
-/// So is each where the marked blocks may hold calls, if the lines on which these are tell them (`AreToldBlocks`): the
-/// content of each calls nothing, or may be edited with its calls (`IsEditable`), as one in pieces or of texts and calls may.
+/// So is each where the marked blocks may hold calls, if the content of each calls nothing, or may be edited with its calls
+/// (`IsEditableNode`), as one in pieces or of texts and calls may, and none is excepted for its lines or calls.
 #[tactic(auto)]
 pub fn text_edits_with_calls_are_done()
     ensures tree { (pages : Pages) (page input : List ℕ) (new : Tree) (unsourced : Option ℕ)
@@ -141,8 +143,8 @@ pub fn text_edits_with_calls_are_done()
         → edit_of pages (Some page) input ≡ done (spliced page (slices same_node (page_tree pages page) new)) }
     ensures local { (pages : Pages) (page input : List ℕ) (new : Tree) (unsourced : Option ℕ)
         → IsEditWithCalls pages page input new unsourced → IsLocalTextEdit pages page new }
-    ensures pieces { (pages : Pages) (b : LinedBlock) → AreInTheirPieces pages b.block b.text → IsEditable pages b }
-    ensures calls { (pages : Pages) (b : LinedBlock) → AreTextsAndCalls pages b.block b.text → IsEditable pages b }
+    ensures pieces { (pages : Pages) (k : TextBlock) (q : List ℕ) → AreInTheirPieces pages k q → IsEditable pages k q }
+    ensures calls { (pages : Pages) (k : TextBlock) (q : List ℕ) → AreTextsAndCalls pages k q → IsEditable pages k q }
 {}
 
 /// So is each that is sent without marks: `edit` of its difference from the page is done (`DoneByEdit`).

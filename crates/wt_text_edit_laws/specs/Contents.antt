@@ -22,7 +22,7 @@ use Rattle.wt_selser.specs.GroupFaults.{has_faulty_group}
 use Rattle.wt_part_laws.specs.Placeless.{placeless}
 use Rattle.wt_part_laws.specs.Standing.{standing}
 use Rattle.wt_part_laws.specs.Rounded.{AllHaveItems}
-use Rattle.wt_text_edit_laws.specs.NoCalls.{AreUnpaired}
+use Rattle.wt_text_edit_laws.specs.NoCalls.{AreFewer}
 use Rattle.wt_text_edit_laws.specs.ParagraphParts.{joined_parts}
 use Rattle.wt_text_edit_laws.specs.Paragraphs.{IsSeenLine}
 use Rattle.wt_text_edit_laws.specs.ReadContents.{BeginsUnclosed, BeginsUnjoined, IsFirmlyRead}
@@ -75,19 +75,20 @@ abbrev pub StaysAnywhere : TextBlock → List ℕ → Type 0
 StaysAnywhere a_paragraph q = (n : ℕ) → All (λ l. line_kind n l ≡ line.Text) (lines (page_items q))
 StaysAnywhere (a_heading s) q = Unit {0}
 
--- It is read the same whatever stands behind it but what a reference goes on with, nothing begins in it that goes on there, and no two braces are side by side in it, outside of its
--- lexemes; nor does it begin with a `}`. So is a text that was typed and spelled.
+-- It is read the same whatever stands behind it but what a reference goes on with, and nothing begins in it that goes on there; nor does it begin with a
+-- `}`. So is a text that was typed and spelled.
 pub record IsFirmContent (k : TextBlock) (q : List ℕ) : Type 0 where
   pub content : IsContent k q
   pub firm : (rest : List ℕ) → StandsBehind rest → BeginsUnjoined rest → page_items (q ++ rest) ≡ page_items q ++ page_items rest
   pub uncommented : (rest : List ℕ) → StandsBehind rest → BeginsUnjoined rest → StandsBehind (q ++ rest)
   pub stays : StaysAnywhere k q
-  pub unpaired : AreUnpaired (page_items q)
   pub unclosed : BeginsUnclosed q
 
--- In the place of an old content: it closes no tag that this didn't close.
+-- In the place of an old content: it closes no tag that this didn't close, and of two braces that are side by side outside of its lexemes it has none, or
+-- some of those of the old one, which calls nothing.
 pub record IsNewContent (k : TextBlock) (was now : List ℕ) : Type 0 where
   pub firm : IsFirmContent k now
+  pub fewer : AreFewer (page_items (source_of k now)) (page_items (source_of k was))
   pub closes : (name us vs : List ℕ) → to_closing name (was ++ us) ≡ None → to_closing name vs ≡ None → to_closing name (now ++ vs) ≡ None
 
 -- Nothing begins in what is firm. What begins in another content ends in it, or is a tag that nothing in the rest of the page closes.

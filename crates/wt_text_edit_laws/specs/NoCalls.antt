@@ -1,5 +1,5 @@
 -- Braces that make no call and no argument.
-use Rattle.std.specs.Prelude.{◌≡◌, ℕ, ◌==◌, ◌||◌, Bool, false, List, [], ◌∷◌, map, codes, if◌then◌else◌}
+use Rattle.std.specs.Prelude.{◌≡◌, ◌⊎◌, ℕ, ◌==◌, ◌||◌, Bool, false, List, [], ◌∷◌, map, codes, if◌then◌else◌}
 use Rattle.wt_span.specs.Bytes.{begins}
 use Rattle.wt_span.specs.Items.{Item, char, whole, sign}
 
@@ -28,9 +28,22 @@ NonePairs (closing ∷ bs) = NonePairs bs
 abbrev pub CallsNothing : List Item → Type 0
 CallsNothing xs = NonePairs (braces (map sign xs))
 
+abbrev pub braces_of : List Item → List Brace
+braces_of xs = braces (map sign xs)
+
 -- no two braces are side by side
 abbrev pub AreUnpaired : List Item → Type 0
 AreUnpaired xs = braces (map sign xs) ≡ []
+
+-- some of them, in their order
+abbrev pub IsSome : List Brace → List Brace → Type 0
+IsSome [] ys = Unit {0}
+IsSome (x ∷ xs) [] = ⊥
+IsSome (x ∷ xs) (y ∷ ys) = ((x ≡ y) × IsSome xs ys) ⊎ IsSome (x ∷ xs) ys
+
+-- In these items no two braces are side by side, or they have some of the old ones', which call nothing.
+abbrev pub AreFewer : List Item → List Item → Type 0
+AreFewer now was = AreUnpaired now ⊎ (CallsNothing was × IsSome (braces_of now) (braces_of was))
 
 -- ---- no brace at all
 

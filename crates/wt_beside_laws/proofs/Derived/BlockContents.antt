@@ -24,7 +24,7 @@ use Rattle.wt_selser.specs.GroupFaults.{has_faulty_group}
 use Rattle.wt_typed_blocks.proofs.Forms.{other_byte}
 use Rattle.wt_text_edit_laws.specs.Contents.{AreParagraphLines, IsHeadingLine, IsContentOf, IsContent}
 use Rattle.wt_text_edit_laws.specs.LonePages.{page_chars}
-use Rattle.wt_text_edit_laws.specs.NoCalls.{Brace, braces, NonePairs, CallsNothing}
+use Rattle.wt_text_edit_laws.specs.NoCalls.{Brace, braces, NonePairs, CallsNothing, IsSome, braces_of}
 use Rattle.wt_text_edit_laws.specs.PageCuts.{AreTextItems, AreHeadingItems, AreBlockItems, IsUntangledAt, IsFreeBlock, EndsThere, EndsClosed}
 use Rattle.wt_text_edit_laws.specs.Paragraphs.{IsSeenLine}
 use Rattle.wt_text_edit_laws.specs.ReadContents.{begins_seen}
@@ -33,7 +33,7 @@ use Rattle.wt_text_edit_laws.specs.TextBlocks.{TextBlock, a_paragraph, a_heading
 use Rattle.wt_text_edit_laws.specs.TypedHeadings.{Sides, AreIdle, equals, opening, heading_line, IsInside}
 use Rattle.wt_text_edit_laws.proofs.Between.BraceWords.{pairs_behind}
 use Rattle.wt_text_edit_laws.proofs.Between.Fronts.{items_from, byte_from}
-use Rattle.wt_text_edit_laws.proofs.Between.LessBraces.{IsSome, all_some, some_both, pairs_some, BeginsUnbraced, braces_of, items_before_start}
+use Rattle.wt_text_edit_laws.proofs.Between.LessBraces.{all_some, some_both, pairs_some, BeginsUnbraced, items_before_start}
 use Rattle.wt_text_edit_laws.proofs.Between.LineComments.{lines_ended}
 use Rattle.wt_text_edit_laws.proofs.Blocks.Untangled.{opens_same}
 use Rattle.wt_text_edit_laws.proofs.Cuts.HeadingCuts.{heading_cut, heading_source}

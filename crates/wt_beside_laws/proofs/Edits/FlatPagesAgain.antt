@@ -11,14 +11,15 @@ use Rattle.wt_beside_laws.specs.Lines.{AreLinesOfText, content_lines}
 use Rattle.wt_beside_laws.specs.PageBlocks.{AreUnstyled, AreShut}
 use Rattle.wt_beside_laws.specs.PageSigns.{signs_of_lines, AreFlatLines}
 use Rattle.wt_beside_laws.proofs.BlockSigns.{same_shut}
-use Rattle.wt_beside_laws.proofs.CalmContents.{content_utf8, content_calm, nowiki_calm, reference_calm}
+use Rattle.wt_beside_laws.proofs.CalmContents.{content_utf8, calm_utf8, content_calm, nowiki_calm, reference_calm}
 use Rattle.wt_beside_laws.proofs.FlatAgain.{EachSource, HoldsOfPut}
 use Rattle.wt_beside_laws.proofs.Styled.Plain.{again_each, again_flat, again_kept, again_shut, again_unstyled}
 use Rattle.wt_beside_laws.proofs.LineItems.{content_lines_are}
 use Rattle.wt_beside_laws.proofs.LineKinds.{are_lines_of_text}
 use Rattle.wt_beside_laws.specs.FlatPages.{lines_of, IsFlatPage, IsFlatEdit, new_signs, new_flat}
 use Rattle.wt_beside_laws.proofs.Edits.OldPages.{one_tree, one_ungrouped}
-use Rattle.wt_beside_laws.proofs.Edits.NewPages.{setting, read_flat, same_things, new_content, new_calm, new_tree, new_page}
+use Rattle.wt_beside_laws.proofs.Marks.Unjoined.{flat_read}
+use Rattle.wt_beside_laws.proofs.Edits.NewPages.{setting, same_things, new_content, new_calm, new_tree, new_page}
 
 -- ---- what holds of the sources
 
@@ -38,7 +39,7 @@ put_calm = record { of_nowiki = nowiki_calm; of_reference = reference_calm }
 -- ---- the new page
 
 new_lines : (q : List ℕ) (ps : Pieces) → IsFlatPage q → IsFlatEdit q ps → lines_of (new_flat q ps) ≡ content_lines (setting q) (new_signs q ps)
-new_lines q ps h e = let f = new_content q ps h e in content_lines_are (setting q) (new_signs q ps) (read_flat (setting q) (new_signs q ps) f) f.unbroken
+new_lines q ps h e = let f = new_content q ps h e in content_lines_are (setting q) (new_signs q ps) (flat_read (setting q) (new_signs q ps) f) f.unbroken
 
 -- what holds of the lines of what was sent holds of the lines of the new page
 of_new : (P : List (List Item) → Type 0) (q : List ℕ) (ps : Pieces) → IsFlatPage q → IsFlatEdit q ps → P (content_lines (setting q) (new_signs q ps))
@@ -57,8 +58,8 @@ flat_again q ps h e =
     let calm = new_calm q ps h e in
     let shut : AreShut signs = same_shut (signs_of_lines 0 (lines_of q)) signs (same_things q ps h e) h.shut in
     record {
-      utf8 = content_utf8 (setting q) signs f.characters calm;
-      calls_nothing = content_calm (setting q) signs (read_flat (setting q) signs f) calm;
+      utf8 = content_utf8 (setting q) signs f.characters (calm_utf8 signs calm);
+      calls_nothing = content_calm (setting q) signs (flat_read (setting q) signs f) calm;
       text = of_new (AreLinesOfText 0) q ps h e (are_lines_of_text 0 (setting q) signs refl f.led.first f.characters f.nodes);
       flat = of_new AreFlatLines q ps h e (again_flat (setting q) signs f);
       unstyled = of_new AreUnstyled q ps h e (again_unstyled (setting q) signs f);

@@ -44,15 +44,16 @@ use Rattle.wt_text_edit_laws.proofs.Prose.ProseTakes.{not_longer}
 use Rattle.wt_text_edit_laws.proofs.Texts.TypedShown.{gathered_shows}
 use Rattle.wt_beside_laws.specs.Calm.{IsCalm, AreCalm}
 use Rattle.wt_beside_laws.specs.Content.{AreKept}
-use Rattle.wt_beside_laws.specs.Flat.{IsFlatContent, IsReadIn, content_parts}
+use Rattle.wt_beside_laws.specs.Flat.{IsFlatContent, content_parts}
 use Rattle.wt_text_edit_laws.specs.ParagraphParts.{para_with, joined_parts}
 use Rattle.wt_beside_laws.specs.PageBlocks.{ShowSources}
 use Rattle.wt_beside_laws.specs.PageSigns.{signs_of_lines}
 use Rattle.wt_beside_laws.specs.SentPieces.{HaveNoStyle, PiecesShow}
 use Rattle.wt_beside_laws.specs.Shown.{parts_shown_at}
 use Rattle.wt_beside_laws.specs.Stood.{things}
+use Rattle.wt_beside_laws.proofs.Marks.Unjoined.{flat_read}
 use Rattle.wt_beside_laws.proofs.BlockSigns.{block_nodes, sent_content, block_shows}
-use Rattle.wt_beside_laws.proofs.CalmContents.{content_utf8, content_expanded, content_unrefused}
+use Rattle.wt_beside_laws.proofs.CalmContents.{content_utf8, calm_utf8, content_expanded, content_unrefused}
 use Rattle.wt_beside_laws.proofs.Styled.Plain.{closed_is, meaning_is, content_is_shown}
 use Rattle.wt_beside_laws.proofs.OwnSigns.{own_content, own_sent}
 use Rattle.wt_beside_laws.proofs.SentNodes.{same_nodes}
@@ -65,9 +66,6 @@ use Rattle.wt_beside_laws.proofs.Edits.FlatEdits.{are_sent, are_edited, ungroupe
 use Rattle.wt_beside_laws.proofs.Edits.OldFull.{old_full}
 use Rattle.wt_beside_laws.proofs.Each.{Each}
 use Rattle.wt_beside_laws.proofs.Edits.FullTrees.{para_plain, content_full, same_full}
-
-pub read_flat : (s : Setting) (signs : List ContentSign) → IsFlatContent s signs → IsReadIn s signs
-read_flat s signs h = record { within = h.of_block; kept = h.kept; nodes = h.nodes; led = h.led }
 
 -- ---- its nodes are the page's
 
@@ -147,9 +145,9 @@ new_page q ps h e =
     let calm = new_calm q ps h e in
     let means : meaning (page_items (new_flat q ps)) ≡ body_with (new_tree q ps ∷ []) = meaning_is (setting q) (new_signs q ps) f in
     record {
-      utf8 = content_utf8 (setting q) (new_signs q ps) f.characters calm;
-      expanded = λ pages. content_expanded pages (setting q) (new_signs q ps) (read_flat (setting q) (new_signs q ps) f) calm;
-      unrefused = λ pages. content_unrefused pages (setting q) (new_signs q ps) (read_flat (setting q) (new_signs q ps) f) calm;
+      utf8 = content_utf8 (setting q) (new_signs q ps) f.characters (calm_utf8 (new_signs q ps) calm);
+      expanded = λ pages. content_expanded pages (setting q) (new_signs q ps) (flat_read (setting q) (new_signs q ps) f) calm;
+      unrefused = λ pages. content_unrefused pages (setting q) (new_signs q ps) (flat_read (setting q) (new_signs q ps) f) calm;
       means = means;
       plain = para_plain (new_parts q ps) (new_flat q ps)
           (content_full (setting q) [] (new_signs q ps) (same_full (signs_of_lines 0 (lines_of q)) (new_signs q ps) (same_things q ps h e) (old_full q h)))

@@ -39,6 +39,7 @@ use Rattle.wt_beside_laws.specs.Kept.{characters, sign}
 use Rattle.wt_beside_laws.specs.PageBlocks.{AreUnstyled, AreShut}
 use Rattle.wt_beside_laws.specs.PageSigns.{signs_of_lines, AreFlatLines}
 use Rattle.wt_beside_laws.specs.StyledIn.{IsFlatIn}
+use Rattle.wt_beside_laws.proofs.CalmContents.{calm_utf8}
 use Rattle.wt_beside_laws.proofs.Firm.{alone_as, parts_read}
 use Rattle.wt_beside_laws.proofs.Edits.Cases.{AreFlat, items_are, break_held, break_calm, break_flat}
 use Rattle.wt_page.specs.Rows.{marks_len}
@@ -66,7 +67,7 @@ paragraph_by q xs is ended given more =
         has_items = b.has_items;
         flat = h.flat;
         kept = h.kept;
-        calm = h.calm;
+        nodes_utf8 = calm_utf8 (signs_of_lines 0 (lines (page_items q))) h.calm;
         shut = h.shut;
       };
       unstyled = h.unstyled;
@@ -146,7 +147,7 @@ heading_by q all xs alone before_break is utf8 given =
         has_items = h.has_items;
         flat = h.flat;
         kept = h.kept;
-        calm = h.calm;
+        nodes_utf8 = calm_utf8 (signs_of_lines 3 (page_items q ∷ [])) h.calm;
         shut = h.shut;
       };
       unstyled = h.unstyled;

@@ -31,6 +31,7 @@ use Rattle.wt_beside_laws.specs.Content.{AreKept, guard_items, letter_items, con
 use Rattle.wt_beside_laws.specs.InHeadings.{AreOnOneLine}
 use Rattle.wt_beside_laws.specs.Lines.{AreCharacters, line_items}
 use Rattle.wt_beside_laws.specs.Nodes.{IsNode, AreNodes}
+use Rattle.wt_beside_laws.specs.Unjoined.{AllUnjoined}
 use Rattle.wt_beside_laws.specs.PageSigns.{ends_break, form_role, atom_role, tile_signs, signs_of_tiles, line_signs, signs_of_lines, IsFlatForm, IsFlatTile, AreFlatTiles, AreFlatLines}
 use Rattle.wt_beside_laws.specs.Stood.{things}
 use Rattle.wt_beside_laws.proofs.Each.{Each}
@@ -248,11 +249,11 @@ all_apart s (next ∷ after) w n h = content_apart s [] next after w n h
 -- ---- the level
 
 -- where each bare URL says so of its last item
-pub level_told : (s : Setting) (signs : List ContentSign) (sides : Sides) → s.within ≡ false → AreKept signs → AreCharacters signs → AreNodes signs → AreMarksLed signs
-    → AreOnOneLine signs → AllTold signs → AreSides sides → IsOfLevel sides (page_items (spelled s signs))
-level_told s signs sides w k c n d o h a =
+pub level_told : (s : Setting) (signs : List ContentSign) (sides : Sides) → s.within ≡ false → AreKept signs → AreCharacters signs → AreNodes signs → AllUnjoined s [] signs
+    → AreMarksLed signs → AreOnOneLine signs → AllTold signs → AreSides sides → IsOfLevel sides (page_items (spelled s signs))
+level_told s signs sides w k c n u d o h a =
     let own : List Item = page_items (spelled s signs) in
-    let is : own ≡ content_items s [] signs = content_alone s signs (record { within = w; kept = k; nodes = n; led = d }) in
+    let is : own ≡ content_items s [] signs = content_alone s signs (record { within = w; kept = k; nodes = n; unjoined = u; led = d }) in
     let ss : List ℕ = map sign own in
     let begins : BeginsWithout is_equals_sign ss =
     subst (λ (xs : List Item). BeginsWithout is_equals_sign (map sign xs)) (sym (is ∙ sym (same_items s [] signs o)))

@@ -2,6 +2,7 @@
 use Rattle.std.proofs.Common.{arith, ◌≡◌, ◌≢◌, ◌⊎◌, inl, inr, ℕ, zero, suc, ◌+◌, ◌-◌, ◌≤◌, ◌==◌, Bool, true, false, Option, Some, None, List, [], ◌∷◌, ◌++◌, length, map, take, drop, refl, sym, ap, ◌∙◌, subst, append_assoc}
 use Rattle.std.specs.Prelude.{◌||◌, ◌&&◌, not, codes, if◌then◌else◌}
 use Rattle.std.specs.Char.{to_ascii_lowercase}
+use Rattle.std.specs.List.{list_all}
 use Rattle.std.proofs.lemmas.Bool.{eqb-true}
 use Rattle.std.proofs.lemmas.List.{length-drop}
 use Rattle.std.proofs.lemmas.List.Elements.{All-contains}
@@ -207,6 +208,7 @@ pub record IsSplit (c : ℕ) (bs : List ℕ) : Type 0 where
   pub behind : List ℕ
   pub is : bs ≡ (before ++ c ∷ []) ++ behind
   pub untagged : HasNoTag behind
+  pub small : list_all is_small behind ≡ true
 
 small_other : (b : ℕ) → is_small b ≡ true → (b == 60) ≡ false
 small_other b e = by (b == 60) refl
@@ -236,6 +238,31 @@ letters_untagged (x ∷ xs) e = by (in_class class.Trail (glyph_of x)) refl e (�
     by true i f k = letter_by x xs i (k (omega (arith, f)))
     by false i f k = absurd (omega (arith, f))
 
+and_both : (u v : Bool) → u ≡ true → v ≡ true → (u && v) ≡ true
+and_both true v e f = f
+and_both false v e f = e
+
+small_by : (x : Item) (xs : List Item) → in_class class.Trail (glyph_of x) ≡ true → list_all is_small (sources xs) ≡ true → list_all is_small (sources (x ∷ xs)) ≡ true
+small_by (char o b) xs e h = and_both (is_small b) (list_all is_small (sources xs)) e h
+small_by (whole form.Chars o bs) xs e h = absurd (cc)
+small_by (whole (form.Entity c) o bs) xs e h = absurd (cc)
+small_by (whole form.Nowiki o bs) xs e h = absurd (cc)
+small_by (whole form.Extension o bs) xs e h = absurd (cc)
+small_by (whole form.Function o bs) xs e h = absurd (cc)
+small_by (whole form.Comment o bs) xs e h = absurd (cc)
+small_by (whole form.Include o bs) xs e h = absurd (cc)
+small_by (whole form.Hidden o bs) xs e h = absurd (cc)
+small_by (whole form.EmptyCall o bs) xs e h = absurd (cc)
+
+letters_small : (xs : List Item) → run_len class.Trail (map glyph_of xs) ≡ length (map glyph_of xs) → list_all is_small (sources xs) ≡ true
+letters_small [] e = refl
+letters_small (x ∷ xs) e = by (in_class class.Trail (glyph_of x)) refl e (λ f. letters_small xs f)
+  where
+    by : (t : Bool) → in_class class.Trail (glyph_of x) ≡ t → (if t then 1 + run_len class.Trail (map glyph_of xs) else 0) ≡ suc (length (map glyph_of xs))
+        → (run_len class.Trail (map glyph_of xs) ≡ length (map glyph_of xs) → list_all is_small (sources xs) ≡ true) → list_all is_small (sources (x ∷ xs)) ≡ true
+    by true i f k = small_by x xs i (k (omega (arith, f)))
+    by false i f k = absurd (omega (arith, f))
+
 only_is : (c : ℕ) (x : Item) → in_class (class.Only c) (glyph_of x) ≡ true → source x ≡ c ∷ []
 only_is c (char o b) e = ap (λ (k : ℕ). k ∷ []) (eqb-true b c e)
 only_is c (whole form.Chars o bs) e = absurd (cc)
@@ -253,9 +280,15 @@ pub split_at : (c k : ℕ) (xs : List Item) → first_is (class.Only c) (drop k 
 split_at c zero [] e f = absurd (cc)
 split_at c (suc k) [] e f = absurd (cc)
 split_at c zero (x ∷ []) e f =
-    record { before = []; behind = []; is = ap (λ (bs : List ℕ). bs ++ []) (only_is c x e); untagged = tt }
+    record { before = []; behind = []; is = ap (λ (bs : List ℕ). bs ++ []) (only_is c x e); untagged = tt; small = refl }
 split_at c zero (x ∷ y ∷ xs) e f =
-    record { before = []; behind = sources (y ∷ xs); is = ap (λ (bs : List ℕ). bs ++ sources (y ∷ xs)) (only_is c x e); untagged = letters_untagged (y ∷ xs) f }
+    record {
+      before = [];
+      behind = sources (y ∷ xs);
+      is = ap (λ (bs : List ℕ). bs ++ sources (y ∷ xs)) (only_is c x e);
+      untagged = letters_untagged (y ∷ xs) f;
+      small = letters_small (y ∷ xs) f;
+    }
 split_at c (suc k) (x ∷ xs) e f =
     let more = split_at c k xs e f in
     record {
@@ -264,6 +297,7 @@ split_at c (suc k) (x ∷ xs) e f =
       is = ap (λ (bs : List ℕ). source x ++ bs) more.is ∙ sym (append_assoc (source x) (more.before ++ c ∷ []) more.behind)
           ∙ ap (λ (bs : List ℕ). bs ++ more.behind) (sym (append_assoc (source x) more.before (c ∷ [])));
       untagged = more.untagged;
+      small = more.small;
     }
 
 tailed_sealed : (c : ℕ) (xs : List Item) → stops c ≡ true → IsTailed c (map glyph_of xs) → IsSealed (sources xs)

@@ -1,7 +1,8 @@
 -- A content that is written for a paragraph or a heading: its lines, and how it is read.
-use Rattle.std.proofs.Common.{◌≡◌, ℕ, Bool, false, None, List, [], ◌∷◌, ◌++◌, map, refl, sym, ap, ap₂, ◌∙◌, subst, append-nil, All}
+use Rattle.std.proofs.Common.{◌≡◌, ℕ, Bool, true, false, None, List, [], ◌∷◌, ◌++◌, map, refl, sym, ap, ap₂, ◌∙◌, subst, append-nil, All}
 use Rattle.std.specs.Prelude.{if◌then◌else◌}
 use Rattle.std.proofs.lemmas.List.Elements.{All-nil, All-cons, All-head, All-tail}
+use Rattle.std.specs.Str.{IsUtf8}
 use Rattle.wt_span.specs.Items.{Item, char}
 use Rattle.wt_tree.specs.declared.edit_shape.Place.TheVariants as place
 use Rattle.wt_guards.specs.Content.{ContentSign, letter, thing}
@@ -10,20 +11,19 @@ use Rattle.wt_expand.specs.PageItems.{page_items}
 use Rattle.wt_lines.specs.declared.kind.LineKind.TheVariants as line
 use Rattle.wt_lines.specs.Kinds.{line_kind}
 use Rattle.wt_lines.specs.Lines.{lines, content}
-use Rattle.wt_text_edit_laws.specs.NoCalls.{NonePairs, AreUnpaired, CallsNothing}
+use Rattle.wt_text_edit_laws.specs.ReadContents.{BeginsUnjoined}
 use Rattle.wt_text_edit_laws.specs.TextBetween.{StandsBehind}
 use Rattle.wt_text_edit_laws.specs.TextBlocks.{TextBlock, a_paragraph, a_heading, source_of, block_items}
 use Rattle.wt_text_edit_laws.proofs.Between.Fronts.{behind_reads}
 use Rattle.wt_text_edit_laws.proofs.Blocks.BlockReading.{IsBeforeAny, HasFrame, any_front}
-use Rattle.wt_text_edit_laws.proofs.Blocks.TypedBraces.{line_unpaired}
 use Rattle.wt_text_edit_laws.proofs.Prose.InFront.{Reads, reads_nothing, read_break, read_items}
 use Rattle.wt_text_edit_laws.proofs.Prose.Uncommented.{BeginsUncommented}
-use Rattle.wt_beside_laws.specs.Calm.{IsCalm, AreCalm}
+use Rattle.wt_beside_laws.specs.Calm.{AreUtf8Nodes}
 use Rattle.wt_beside_laws.specs.Flat.{IsReadIn}
 use Rattle.wt_beside_laws.specs.FlatBlocks.{lines_in}
 use Rattle.wt_beside_laws.specs.InHeadings.{AreOnOneLine}
 use Rattle.wt_beside_laws.specs.Lines.{AreLinesOfText, AreCharacters, AreUnbroken, line_items, later_lines, content_lines}
-use Rattle.wt_beside_laws.proofs.CalmContents.{content_unpaired, nowiki_calm, reference_calm}
+use Rattle.wt_beside_laws.proofs.CalmContents.{guard_utf8, reference_calm}
 use Rattle.wt_beside_laws.proofs.FlatAgain.{EachSource, HoldsOfPut}
 use Rattle.wt_beside_laws.proofs.LineHeadings.{same_items}
 use Rattle.wt_beside_laws.proofs.LineItems.{content_lines_are}
@@ -56,36 +56,37 @@ lines_by (a_heading h) s signs kept unbroken fits =
 
 -- ---- how it is read
 
-content_front : (s : Setting) (signs : List ContentSign) → IsReadIn s signs → (rest : List ℕ) (xs : List Item) → Reads rest xs
+content_front : (s : Setting) (signs : List ContentSign) → IsReadIn s signs → (rest : List ℕ) (xs : List Item) → BeginsUnjoined rest → Reads rest xs
     → Reads (spelled s signs ++ rest) (page_items (spelled s signs) ++ xs)
-content_front s signs k rest xs r =
-    subst (λ (ys : List Item). Reads (spelled s signs ++ rest) (ys ++ xs)) (sym (content_alone s signs k)) (content_reads s signs k rest xs r)
+content_front s signs k rest xs j r =
+    subst (λ (ys : List Item). Reads (spelled s signs ++ rest) (ys ++ xs)) (sym (content_alone s signs k)) (content_reads s signs k rest xs j r)
 
 pub before_any : (s : Setting) (signs : List ContentSign) → IsReadIn s signs → IsBeforeAny (spelled s signs)
-before_any s signs k rest xs j r = content_front s signs k rest xs r
+before_any s signs k rest xs j r = content_front s signs k rest xs j r
 
 stands : (bs : List ℕ) → BeginsUncommented bs → StandsBehind bs
 stands bs h = record { uncommented = h.is }
 
-pub uncommented : (s : Setting) (signs : List ContentSign) (rest : List ℕ) → IsReadIn s signs → StandsBehind rest → StandsBehind (spelled s signs ++ rest)
-uncommented s signs rest k b =
-    let r : Reads (spelled s signs ++ rest) (page_items (spelled s signs) ++ page_items rest) = content_front s signs k rest (page_items rest) (behind_reads rest b) in
+pub uncommented : (s : Setting) (signs : List ContentSign) (rest : List ℕ) → IsReadIn s signs → StandsBehind rest → BeginsUnjoined rest
+    → StandsBehind (spelled s signs ++ rest)
+uncommented s signs rest k b j =
+    let r : Reads (spelled s signs ++ rest) (page_items (spelled s signs) ++ page_items rest) = content_front s signs k rest (page_items rest) j (behind_reads rest b) in
     stands (spelled s signs ++ rest) r.begins
 
-pub firm : (s : Setting) (signs : List ContentSign) (rest : List ℕ) → IsReadIn s signs → StandsBehind rest
+pub firm : (s : Setting) (signs : List ContentSign) (rest : List ℕ) → IsReadIn s signs → StandsBehind rest → BeginsUnjoined rest
     → page_items (spelled s signs ++ rest) ≡ page_items (spelled s signs) ++ page_items rest
-firm s signs rest k b =
-    read_items (spelled s signs ++ rest) (page_items (spelled s signs) ++ page_items rest) (content_front s signs k rest (page_items rest) (behind_reads rest b))
+firm s signs rest k b j =
+    read_items (spelled s signs ++ rest) (page_items (spelled s signs) ++ page_items rest) (content_front s signs k rest (page_items rest) j (behind_reads rest b))
 
 pub alone : (s : Setting) (signs : List ContentSign) → IsReadIn s signs → StandsBehind (spelled s signs)
 alone s signs k =
-    let r : Reads (spelled s signs ++ []) (page_items (spelled s signs) ++ []) = content_front s signs k [] [] reads_nothing in
+    let r : Reads (spelled s signs ++ []) (page_items (spelled s signs) ++ []) = content_front s signs k [] [] tt reads_nothing in
     subst StandsBehind (append-nil (spelled s signs)) (stands (spelled s signs ++ []) r.begins)
 
 pub before_break : (s : Setting) (signs : List ContentSign) → IsReadIn s signs → StandsBehind (spelled s signs ++ 10 ∷ [])
 before_break s signs k =
     let r : Reads (spelled s signs ++ 10 ∷ []) (page_items (spelled s signs) ++ char None 10 ∷ []) =
-    content_front s signs k (10 ∷ []) (char None 10 ∷ []) (read_break [] [] reads_nothing) in
+    content_front s signs k (10 ∷ []) (char None 10 ∷ []) refl (read_break [] [] reads_nothing) in
     stands (spelled s signs ++ 10 ∷ []) r.begins
 
 -- in its block
@@ -112,26 +113,17 @@ unled_by s signs k typed unbroken =
     lines_unled 0 (page_items (spelled s signs))
     (subst (AreLinesOfText 0) (sym (content_lines_are s signs k unbroken)) (are_lines_of_text 0 s signs k.within k.led.first typed k.nodes))
 
--- ---- it calls nothing
-
-block_unpaired : (k : TextBlock) (s : Setting) (signs : List ContentSign) → HasFrame k → IsReadIn s signs → AreCalm signs → AreUnpaired (block_items k (spelled s signs))
-block_unpaired a_paragraph s signs f kept calm = content_unpaired s signs kept calm
-block_unpaired (a_heading h) s signs f kept calm = line_unpaired h (page_items (spelled s signs)) f (content_unpaired s signs kept calm)
-
-pub calls_none : (k : TextBlock) (s : Setting) (signs : List ContentSign) → HasFrame k → IsReadIn s signs → AreCalm signs → CallsNothing (block_items k (spelled s signs))
-calls_none k s signs f kept calm = subst NonePairs (sym (block_unpaired k s signs f kept calm)) tt
-
 -- ---- what holds of its sources
 
-pub from_calm : (signs : List ContentSign) → AreCalm signs → EachSource IsCalm signs
-from_calm [] h = tt
-from_calm (letter c ∷ after) h = from_calm after h
-from_calm (thing t ∷ after) h = (h.0, from_calm after h.1)
+pub from_utf8 : (signs : List ContentSign) → AreUtf8Nodes signs → EachSource IsUtf8 signs
+from_utf8 [] h = tt
+from_utf8 (letter c ∷ after) h = from_utf8 after h
+from_utf8 (thing t ∷ after) h = (h.0, from_utf8 after h.1)
 
-pub to_calm : (signs : List ContentSign) → EachSource IsCalm signs → AreCalm signs
-to_calm [] h = tt
-to_calm (letter c ∷ after) h = to_calm after h
-to_calm (thing t ∷ after) h = (h.0, to_calm after h.1)
+pub to_utf8 : (signs : List ContentSign) → EachSource IsUtf8 signs → AreUtf8Nodes signs
+to_utf8 [] h = tt
+to_utf8 (letter c ∷ after) h = to_utf8 after h
+to_utf8 (thing t ∷ after) h = (h.0, to_utf8 after h.1)
 
-pub put_calm : HoldsOfPut IsCalm
-put_calm = record { of_nowiki = nowiki_calm; of_reference = reference_calm }
+pub put_utf8 : HoldsOfPut IsUtf8
+put_utf8 = record { of_nowiki = guard_utf8 true; of_reference = λ c e. let r = reference_calm c e in r.utf8 }

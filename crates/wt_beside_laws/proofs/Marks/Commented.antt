@@ -1,5 +1,5 @@
 -- A content with comments and lines of comments is read as its signs, one after the other.
-use Rattle.std.proofs.Common.{arith, ◌≡◌, ℕ, ◌==◌, Bool, true, false, None, List, [], ◌∷◌, ◌++◌, refl, sym, ap, ap₂, ◌∙◌, subst, inl, inr, append_assoc}
+use Rattle.std.proofs.Common.{arith, ◌≡◌, ◌⊎◌, ℕ, ◌==◌, Bool, true, false, None, List, [], ◌∷◌, ◌++◌, refl, sym, ap, ap₂, ◌∙◌, subst, inl, inr, append_assoc, append-nil}
 use Rattle.std.specs.Prelude.{◌&&◌, ◌||◌, not, Some, if◌then◌else◌}
 use Rattle.std.proofs.lemmas.Bool.Decides.{nat_tests}
 use Rattle.std.proofs.lemmas.Str.{encode_ascii}
@@ -17,11 +17,12 @@ use Rattle.wt_guards.proofs.Escapes.{escapable}
 use Rattle.wt_expand.specs.PageItems.{page_items}
 use Rattle.wt_typed_blocks.proofs.Lines.{unguarded_begins, end_guarded}
 use Rattle.wt_text_edit_laws.specs.LonePages.{page_chars}
+use Rattle.wt_text_edit_laws.specs.ReadContents.{BeginsUnjoined}
 use Rattle.wt_text_edit_laws.specs.TextBetween.{StandsBehind}
 use Rattle.wt_text_edit_laws.proofs.Between.Fronts.{ReadsAfter, behind_reads, reads_after, reads_either}
-use Rattle.wt_text_edit_laws.proofs.Prose.InFront.{Reads, read_items}
+use Rattle.wt_text_edit_laws.proofs.Prose.InFront.{Reads, reads_nothing, read_items}
 use Rattle.wt_text_edit_laws.proofs.Prose.Uncommented.{BeginsUncommented}
-use Rattle.wt_beside_laws.specs.Commented.{IsCommentSource, IsReadInLine, IsHeld}
+use Rattle.wt_beside_laws.specs.Commented.{IsCommentSource, LexemesEnd, IsReadInLine, IsHeld}
 use Rattle.wt_beside_laws.specs.Content.{AreKept, guard_items, letter_items, content_items}
 use Rattle.wt_beside_laws.specs.Cuts.{own_glyphs}
 use Rattle.wt_beside_laws.specs.Flat.{IsReadIn}
@@ -30,12 +31,15 @@ use Rattle.wt_beside_laws.specs.Led.{BeginsUnled, AreLed}
 use Rattle.wt_beside_laws.specs.NodeItems.{node_items}
 use Rattle.wt_beside_laws.specs.Nodes.{IsNode, AreNodes}
 use Rattle.wt_beside_laws.specs.PageSigns.{ends_break, HasNoBreak}
+use Rattle.wt_beside_laws.specs.References.{ReferencesEnd}
+use Rattle.wt_beside_laws.specs.Unjoined.{IsUnjoined, AllUnjoined}
 use Rattle.wt_beside_laws.proofs.Contents.{further, guard_reads}
-use Rattle.wt_beside_laws.proofs.Firm.{ReadsAs, alone_as}
 use Rattle.wt_beside_laws.proofs.LineKinds.{mark_begun, mark_unempty, new_guarded, empty_guarded, start_begun}
 use Rattle.wt_beside_laws.proofs.Marks.Ends.{kept_unended, read_unended, comment_unended, unended_role}
 use Rattle.wt_beside_laws.proofs.Marks.InLine.{InLine, InLineAs, comment_in, comment_line, break_after, kept_in, read_in, nowiki_in, letter_in, reference_ends}
 use Rattle.wt_beside_laws.proofs.Marks.Shown.{IsShownFirst, shown_begins, IsSeen, shown_seen, seen_read, seen_back, seen_from, seen_comment, comment_node, line_node, kept_node, read_node, read_shown, thing_shown, comment_mark, line_mark, line_ends, letter_shown, nowiki_shown, in_order}
+use Rattle.wt_beside_laws.proofs.NodeItems.{node_sources}
+use Rattle.wt_beside_laws.proofs.Own.References.{node_references}
 
 -- ---- a node in its line
 
@@ -46,8 +50,17 @@ source_in source h =
 kept_line : (source : List ℕ) → IsKept source → HasNoBreak (page_items source) → InLineAs source (node_items source)
 kept_line source k n = subst (InLineAs source) (sym (kept_node source k)) (kept_in source k n)
 
-read_line : (source : List ℕ) → IsReadInLine source → InLineAs source (node_items source)
-read_line source h = subst (InLineAs source) (sym (read_node source h)) (read_in source h)
+read_line : (source more : List ℕ) (ys : List Item) → IsReadInLine source → ReferencesEnd source ⊎ BeginsUnjoined more → InLine more ys
+    → InLine (source ++ more) (node_items source ++ ys)
+read_line source more ys h j r =
+    subst (λ (xs : List Item). InLine (source ++ more) (xs ++ ys)) (sym (read_node source h)) (read_in source more ys h j r)
+
+-- no reference that may begin at its end goes on
+node_joins : (t : Thing) (more rest : List ℕ) → IsNode t.role (own_glyphs t) → IsReadInLine t.source → IsUnjoined t.role more → BeginsUnjoined rest
+    → ReferencesEnd t.source ⊎ BeginsUnjoined (more ++ rest)
+node_joins t more rest n h u b =
+    subst (λ (q : List ℕ). ReferencesEnd q ⊎ BeginsUnjoined (more ++ rest)) (node_sources t.source)
+    (node_references t.role (node_items t.source) more rest (subst LexemesEnd (sym (read_node t.source h)) h.ends) n u b)
 
 -- ---- what is put, and what is typed
 
@@ -158,11 +171,11 @@ line_unguarded s before t after l e =
 -- ---- a node
 
 -- one that is read in a line: where a line begins with it, it is no line of comments
-inline_level : (u start : Bool) (t : Thing) (more : List ℕ) (ys : List Item) → InLineAs t.source (node_items t.source) → InLine more ys
+inline_level : (u start : Bool) (t : Thing) (more : List ℕ) (ys : List Item) → InLine (t.source ++ more) (node_items t.source ++ ys)
     → (u ≡ false → start ≡ true → IsSeen (t.source ++ more)) → ReadsAfter start (nowiki_if u ++ (t.source ++ more)) (guard_items u ++ (node_items t.source ++ ys))
-inline_level u start t more ys read r seen =
-    guard_level u start (t.source ++ more) (node_items t.source ++ ys) (read more ys r)
-    (λ g z. seen_read (t.source ++ more) (node_items t.source ++ ys) (seen g z) (read more ys r))
+inline_level u start t more ys line seen =
+    guard_level u start (t.source ++ more) (node_items t.source ++ ys) line
+    (λ g z. seen_read (t.source ++ more) (node_items t.source ++ ys) (seen g z) line)
 
 unempty_by : (s : Setting) (before : List ContentSign) (t : Thing) (after : List ContentSign) (v : Bool) → s.within ≡ false → is_line_start (nearest before) ≡ true
     → ends_line t.role ≡ false → is_guarded s before (thing t ∷ after) ≡ false → is_empty_line (thing t ∷ after) ≡ v → v ≡ false
@@ -183,26 +196,27 @@ comment_seen s before t after rest c w l e g h n =
     (seen_from s (thing t ∷ before) after w begun (mark_unempty t.role (is_empty_line after) m some) h.1 n.1 rest))
 
 thing_level : (s : Setting) (before : List ContentSign) (t : Thing) (after : List ContentSign) (start : Bool) (rest : List ℕ) (ys : List Item) → s.within ≡ false
-    → is_line_start (nearest before) ≡ start → AreKept (thing t ∷ after) → AreNodes (thing t ∷ after) → AreLed before (thing t ∷ after) → IsHeld t.source
+    → is_line_start (nearest before) ≡ start → AreKept (thing t ∷ after) → AreNodes (thing t ∷ after) → AreLed before (thing t ∷ after)
+    → (IsReadInLine t.source → ReferencesEnd t.source ⊎ BeginsUnjoined (spelled_from s (thing t ∷ before) after ++ rest)) → IsHeld t.source
     → ((v : Bool) → ends_line t.role ≡ v → ReadsAfter v (spelled_from s (thing t ∷ before) after ++ rest) ys)
     → ReadsAfter start (nowiki_if (is_guarded s before (thing t ∷ after)) ++ (t.source ++ (spelled_from s (thing t ∷ before) after ++ rest)))
     (guard_items (is_guarded s before (thing t ∷ after)) ++ (node_items t.source ++ ys))
-thing_level s before t after start rest ys w l h n d (inl k) go =
+thing_level s before t after start rest ys w l h n d j (inl k) go =
     let more : List ℕ = spelled_from s (thing t ∷ before) after ++ rest in
-    inline_level (is_guarded s before (thing t ∷ after)) start t more ys (kept_line t.source k.0 k.1)
-    (go false (unended_role t.role t.source h.0.1 (kept_unended t.source k.0 k.1)))
+    inline_level (is_guarded s before (thing t ∷ after)) start t more ys
+    (kept_line t.source k.0 k.1 more ys (go false (unended_role t.role t.source h.0.1 (kept_unended t.source k.0 k.1))))
     (λ g z. shown_seen (t.source ++ more) (thing_shown t k.0 n.0 more))
-thing_level s before t after start rest ys w l h n d (inr (inl c)) go =
+thing_level s before t after start rest ys w l h n d j (inr (inl c)) go =
     let more : List ℕ = spelled_from s (thing t ∷ before) after ++ rest in
     let e : ends_line t.role ≡ false = unended_role t.role t.source h.0.1 (ap ends_break c.is ∙ comment_unended (60 ∷ c.others) c.comment.ends) in
-    inline_level (is_guarded s before (thing t ∷ after)) start t more ys (source_in t.source c) (go false e)
+    inline_level (is_guarded s before (thing t ∷ after)) start t more ys (source_in t.source c more ys (go false e))
     (λ g z. comment_seen s before t after rest c w (l ∙ z) e g h n)
-thing_level s before t after start rest ys w l h n d (inr (inr (inr k))) go =
+thing_level s before t after start rest ys w l h n d j (inr (inr (inr k))) go =
     let more : List ℕ = spelled_from s (thing t ∷ before) after ++ rest in
-    inline_level (is_guarded s before (thing t ∷ after)) start t more ys (read_line t.source k)
-    (go false (unended_role t.role t.source h.0.1 (read_unended t.source k)))
+    inline_level (is_guarded s before (thing t ∷ after)) start t more ys
+    (read_line t.source more ys k (j k) (go false (unended_role t.role t.source h.0.1 (read_unended t.source k))))
     (λ g z. shown_seen (t.source ++ more) (read_shown t.source k more))
-thing_level s before t after start rest ys w l h n d (inr (inr (inl c))) go =
+thing_level s before t after start rest ys w l h n d j (inr (inr (inl c))) go =
     let more : List ℕ = spelled_from s (thing t ∷ before) after ++ rest in
     let e : ends_line t.role ≡ true = line_ends t c n.0 h.0.1 in
     let z : is_line_start (nearest before) ≡ true = d.0 e in
@@ -215,29 +229,29 @@ thing_level s before t after start rest ys w l h n d (inr (inr (inl c))) go =
 -- ---- all of it
 
 content_level : (s : Setting) (before signs : List ContentSign) (start : Bool) → s.within ≡ false → is_line_start (nearest before) ≡ start
-    → AreKept signs → AreNodes signs → AreLed before signs → (rest : List ℕ) (xs : List Item) → Reads rest xs
+    → AreKept signs → AreNodes signs → AllUnjoined s before signs → AreLed before signs → (rest : List ℕ) (xs : List Item) → BeginsUnjoined rest → Reads rest xs
     → ReadsAfter start (spelled_from s before signs ++ rest) (content_items s before signs ++ xs)
-content_level s before [] start w l h n d rest xs r =
+content_level s before [] start w l h n u d rest xs b r =
     reads_after start (nowiki_if (is_guarded s before []) ++ rest) (guard_items (is_guarded s before []) ++ xs) (guard_reads (is_guarded s before []) rest xs r)
-content_level s before (letter c ∷ after) start w l h n d rest xs r =
+content_level s before (letter c ∷ after) start w l h n j d rest xs b r =
     let e : Bool = is_escaped s.within s.place before c after in
     let u : Bool = is_guarded s before (letter c ∷ after) in
     let more : List ℕ = further s c before after in
     let ms : List Item = content_items s (letter c ∷ before) after in
-    let next : ReadsAfter (c == 10) (more ++ rest) (ms ++ xs) = content_level s (letter c ∷ before) after (c == 10) w refl h n d rest xs r in
+    let next : ReadsAfter (c == 10) (more ++ rest) (ms ++ xs) = content_level s (letter c ∷ before) after (c == 10) w refl h n j d rest xs b r in
     let own : InLine (written_by e c ++ (more ++ rest)) (letter_items e c ++ (ms ++ xs)) = letter_level s before c after rest (ms ++ xs) (c == 10) refl next in
     joined start (nowiki_if u) (written_by e c) more rest (guard_items u) (letter_items e c) ms xs
     (guard_level u start (written_by e c ++ (more ++ rest)) (letter_items e c ++ (ms ++ xs)) own
     (λ g z. seen_read (written_by e c ++ (more ++ rest)) (letter_items e c ++ (ms ++ xs))
     (shown_seen (written_by e c ++ (more ++ rest))
     (letter_shown s before c after rest e refl (unguarded_begins s before c after w (l ∙ z) (start_begun before (l ∙ z)) g))) own))
-content_level s before (thing t ∷ after) start w l h n d rest xs r =
+content_level s before (thing t ∷ after) start w l h n j d rest xs b r =
     let u : Bool = is_guarded s before (thing t ∷ after) in
     let more : List ℕ = spelled_from s (thing t ∷ before) after in
     let ms : List Item = content_items s (thing t ∷ before) after in
     joined start (nowiki_if u) t.source more rest (guard_items u) (node_items t.source) ms xs
-    (thing_level s before t after start rest (ms ++ xs) w l h n d h.0.0
-    (λ v e. content_level s (thing t ∷ before) after v w e h.1 n.1 d.1 rest xs r))
+    (thing_level s before t after start rest (ms ++ xs) w l h n d (λ k. node_joins t more rest n.0 k j.0 b) h.0.0
+    (λ v e. content_level s (thing t ∷ before) after v w e h.1 n.1 j.1 d.1 rest xs b r))
 
 -- ---- what begins it
 
@@ -271,19 +285,23 @@ content_shown s (thing t ∷ after) w b h n rest =
     unmarked g true e = let no : true ≡ false = sym (new_guarded s [] t after w refl (b e)) ∙ g in cc
     unmarked g false e = refl
 
--- So a content of a paragraph or a heading is read before whatever is read behind it.
-pub content_reads : (s : Setting) (signs : List ContentSign) → IsReadIn s signs → ReadsAs (spelled s signs) (content_items s [] signs)
-content_reads s signs k rest xs r =
+-- So a content of a paragraph or a heading is read before whatever is read behind it, if no reference goes on with that.
+pub content_reads : (s : Setting) (signs : List ContentSign) → IsReadIn s signs → (rest : List ℕ) (xs : List Item) → BeginsUnjoined rest → Reads rest xs
+    → Reads (spelled s signs ++ rest) (content_items s [] signs ++ xs)
+content_reads s signs k rest xs b r =
     let bs : List ℕ = spelled s signs ++ rest in
     let f : IsShownFirst bs = content_shown s signs k.within k.led.first k.kept k.nodes rest in
     reads_either bs (content_items s [] signs ++ xs) (shown_begins bs f)
     (seen_back bs (content_items s [] signs ++ xs) (shown_seen bs f)
-    (content_level s [] signs true k.within refl k.kept k.nodes k.led.others rest xs r))
+    (content_level s [] signs true k.within refl k.kept k.nodes k.unjoined k.led.others rest xs b r))
 
 pub content_alone : (s : Setting) (signs : List ContentSign) → IsReadIn s signs → page_items (spelled s signs) ≡ content_items s [] signs
-content_alone s signs k = alone_as (spelled s signs) (content_items s [] signs) (content_reads s signs k)
+content_alone s signs k =
+    ap page_items (sym (append-nil (spelled s signs)))
+    ∙ read_items (spelled s signs ++ []) (content_items s [] signs ++ []) (content_reads s signs k [] [] tt reads_nothing)
+    ∙ append-nil (content_items s [] signs)
 
-pub content_before : (s : Setting) (signs : List ContentSign) (rest : List ℕ) → IsReadIn s signs → StandsBehind rest
+pub content_before : (s : Setting) (signs : List ContentSign) (rest : List ℕ) → IsReadIn s signs → StandsBehind rest → BeginsUnjoined rest
     → page_items (spelled s signs ++ rest) ≡ content_items s [] signs ++ page_items rest
-content_before s signs rest k b =
-    read_items (spelled s signs ++ rest) (content_items s [] signs ++ page_items rest) (content_reads s signs k rest (page_items rest) (behind_reads rest b))
+content_before s signs rest k b j =
+    read_items (spelled s signs ++ rest) (content_items s [] signs ++ page_items rest) (content_reads s signs k rest (page_items rest) j (behind_reads rest b))

@@ -1,5 +1,5 @@
 -- What is read in a line, where no line break stands before it: there a comment is a comment, and no comment line.
-use Rattle.std.proofs.Common.{arith, ◌≡◌, ℕ, suc, ◌≤◌, ◌==◌, Bool, true, false, Some, None, List, [], ◌∷◌, ◌++◌, length, refl, sym, ap, ◌∙◌, subst, inl, inr, append_assoc, All}
+use Rattle.std.proofs.Common.{arith, ◌≡◌, ◌⊎◌, ℕ, suc, ◌≤◌, ◌==◌, Bool, true, false, Some, None, List, [], ◌∷◌, ◌++◌, length, refl, sym, ap, ◌∙◌, subst, inl, inr, append_assoc, All}
 use Rattle.std.specs.Prelude.{◌||◌, codes, encode_utf8}
 use Rattle.std.proofs.Math.Seq.{take-append_seam}
 use Rattle.std.proofs.lemmas.Bool.{cases_lt}
@@ -24,6 +24,7 @@ use Rattle.wt_expand.specs.PageItems.{items_of_word, page_items}
 use Rattle.wt_typed_blocks.proofs.Forms.{other_byte, equals_byte, IsTame, less_byte, and_byte, nowiki_form, reference_form}
 use Rattle.wt_typed_blocks.proofs.TextReads.{bracket_escaped, not_bracket, equal_or}
 use Rattle.wt_text_edit_laws.specs.LonePages.{page_chars}
+use Rattle.wt_text_edit_laws.specs.ReadContents.{BeginsUnjoined}
 use Rattle.wt_text_edit_laws.specs.TextBetween.{EndsBy}
 use Rattle.wt_text_edit_laws.proofs.Between.Fronts.{ReadsAfter, first_from, byte_from, form_from, items_from, page_read, alone_reads}
 use Rattle.wt_text_edit_laws.proofs.Texts.TypedItems.{references, wide_form, wide_tame, tame_if, IsMild, wide_mild, mild_if, no_form_byte}
@@ -31,6 +32,7 @@ use Rattle.wt_beside_laws.specs.Commented.{IsComment, IsCommentLine, IsReadInLin
 use Rattle.wt_beside_laws.specs.Content.{guard_items, letter_items}
 use Rattle.wt_beside_laws.specs.Kept.{Part, characters, sign, lexeme, is_firm, AreFirm, is_lexeme_end, IsPart, AreParts, part_source, parts_source, part_items, parts_items, IsKept}
 use Rattle.wt_beside_laws.specs.PageSigns.{HasNoBreak}
+use Rattle.wt_beside_laws.specs.References.{ReferencesEnd}
 use Rattle.wt_beside_laws.proofs.Contents.{further, begin_letter}
 use Rattle.wt_beside_laws.proofs.Firm.{ReadsAs, alone_as, parts_read, open_items, close_items, pipe_byte, other_form}
 use Rattle.std.specs.Fmt.{digits}
@@ -166,11 +168,11 @@ kept_in q h n =
     subst (λ xs. InLineAs q xs) (sym is)
     (subst (λ bs. InLineAs bs (parts_items h.parts)) h.is (parts_in h.parts h.are (subst HasNoBreak is n)))
 
--- ---- a node that is read so whatever is behind it
+-- ---- a node that is read so whatever is behind it, if no reference goes on there
 
-pub read_in : (q : List ℕ) → IsReadInLine q → InLineAs q (page_items q)
-read_in q h rest xs r =
-    subst (InLine (q ++ rest)) (h.reads rest ∙ ap (λ (ys : List Item). page_items q ++ ys) (page_read rest xs r)) (alone_reads (q ++ rest))
+pub read_in : (q rest : List ℕ) (xs : List Item) → IsReadInLine q → ReferencesEnd q ⊎ BeginsUnjoined rest → InLine rest xs → InLine (q ++ rest) (page_items q ++ xs)
+read_in q rest xs h j r =
+    subst (InLine (q ++ rest)) (h.reads rest j ∙ ap (λ (ys : List Item). page_items q ++ ys) (page_read rest xs r)) (alone_reads (q ++ rest))
 
 -- the other way round
 pub line_reads : (q : List ℕ) (own : List Item) → InLineAs q own → (rest : List ℕ) → page_items (q ++ rest) ≡ own ++ page_items rest

@@ -48,7 +48,7 @@ link_read = line_reads (codes "[[a<!--c-->b]]") link_items link_in [] ∙ ap (λ
 link_held : IsHeld (codes "[[a<!--c-->b]]")
 link_held =
     inr (inr (inr (record {
-      reads = λ rest. line_reads (codes "[[a<!--c-->b]]") link_items link_in rest ∙ ap (λ (xs : List Item). xs ++ page_items rest) (sym link_read);
+      reads = λ rest j. line_reads (codes "[[a<!--c-->b]]") link_items link_in rest ∙ ap (λ (xs : List Item). xs ++ page_items rest) (sym link_read);
       begins = subst BeginsShown (sym link_read) (refl, refl);
       unbroken = subst HasNoBreak (sym link_read) (refl, (refl, (refl, (tt, (refl, (refl, (refl, tt)))))));
       ends = subst LexemesEnd (sym link_read) (refl, tt);

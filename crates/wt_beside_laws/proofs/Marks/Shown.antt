@@ -33,6 +33,7 @@ use Rattle.wt_typed_blocks.proofs.TextReads.{equal_or, apart}
 use Rattle.wt_tiles.specs.declared.glyph.Glyph.{Glyph}
 use Rattle.wt_tiles.specs.declared.glyph.Glyph.TheVariants as glyph
 use Rattle.wt_tiles.specs.Glyphs.{glyph_of}
+use Rattle.wt_text_edit_laws.specs.ReadContents.{joins_reference, BeginsUnjoined}
 use Rattle.wt_text_edit_laws.proofs.Between.Fronts.{ReadsAfter, reads_after, items_from, first_items, first_from, byte_from, form_from}
 use Rattle.wt_text_edit_laws.proofs.Between.LineForms.{get_behind}
 use Rattle.wt_text_edit_laws.proofs.Between.LineRemarks.{blank_form, comment_form as comment_word}
@@ -50,6 +51,7 @@ use Rattle.wt_beside_laws.proofs.Firm.{ReadsAs, alone_as, parts_read, less_firm}
 use Rattle.wt_beside_laws.proofs.LineKinds.{no_break, FirstOpens, node_opens, mark_is, mark_begun, mark_unempty, begun_free, both_free, or_none}
 use Rattle.wt_beside_laws.proofs.Marks.InLine.{InLine, comment_in, comment_line}
 use Rattle.wt_beside_laws.proofs.Marks.Ends.{line_ended, ended_role}
+use Rattle.wt_beside_laws.proofs.Marks.Uncommented.{joined_none}
 use Rattle.wt_beside_laws.proofs.NodeItems.{node_read, node_as, node_same}
 
 -- ---- something that is shown is first
@@ -253,6 +255,22 @@ no_comment b bs h = by (comment_len (b ∷ bs)) refl
 from_page : (bs : List ℕ) → page_items bs ≡ items_from false 0 bs
 from_page bs = first_items bs ∙ sym (first_from false bs)
 
+unjoined_none : (source : List ℕ) → IsReadInLine source → (b : ℕ) (q : List ℕ) → source ≡ b ∷ q → (rest : List ℕ) → BeginsUnjoined rest
+    → comment_len (b ∷ (q ++ rest)) ≡ None
+unjoined_none source h b q e rest u =
+    let all : page_items (b ∷ (q ++ rest)) ≡ page_items source ++ page_items rest = ap (λ (bs : List ℕ). page_items (bs ++ rest)) (sym e) ∙ h.reads rest (inr u) in
+    no_comment b (q ++ rest)
+    (subst BeginsShown (sym all ∙ from_page (b ∷ (q ++ rest))) (begins_more (page_items source) (page_items rest) h.begins))
+
+none_behind : (source : List ℕ) → IsReadInLine source → (b : ℕ) (q : List ℕ) → source ≡ b ∷ q → BeginsShown (items_from false 0 (b ∷ q)) → (rest : List ℕ)
+    → comment_len (b ∷ (q ++ rest)) ≡ None
+none_behind source h b q e own [] = unjoined_none source h b q e [] tt
+none_behind source h b q e own (c ∷ cs) = by (joins_reference c) refl
+  where
+    by : (v : Bool) → joins_reference c ≡ v → comment_len (b ∷ (q ++ c ∷ cs)) ≡ None
+    by true i = joined_none b q c cs i (no_comment b q own)
+    by false i = unjoined_none source h b q e (c ∷ cs) i
+
 pub read_shown : (source : List ℕ) → IsReadInLine source → (rest : List ℕ) → IsShownFirst (source ++ rest)
 read_shown source h rest = by source refl
   where
@@ -260,10 +278,7 @@ read_shown source h rest = by source refl
     by [] e = absurd (subst BeginsShown (ap page_items e ∙ nothing_read) h.begins)
     by (b ∷ q) e =
         let own : BeginsShown (items_from false 0 (b ∷ q)) = subst BeginsShown (ap page_items e ∙ from_page (b ∷ q)) h.begins in
-        let all : page_items (b ∷ (q ++ rest)) ≡ page_items source ++ page_items rest = ap (λ (bs : List ℕ). page_items (bs ++ rest)) (sym e) ∙ h.reads rest in
-        let more : BeginsShown (items_from false 0 (b ∷ (q ++ rest))) =
-        subst BeginsShown (sym all ∙ from_page (b ∷ (q ++ rest))) (begins_more (page_items source) (page_items rest) h.begins) in
-        record { first = b; others = q ++ rest; is = refl; blank = unblank b q own; break = no_line_break b q own; none = no_comment b (q ++ rest) more }
+        record { first = b; others = q ++ rest; is = refl; blank = unblank b q own; break = no_line_break b q own; none = none_behind source h b q e own rest }
 
 pub read_node : (source : List ℕ) → IsReadInLine source → node_items source ≡ page_items source
 read_node source h = node_same source (subst BeginsUncommented (append-nil source) (shown_begins (source ++ []) (read_shown source h [])))

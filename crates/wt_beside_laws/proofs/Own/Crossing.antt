@@ -33,7 +33,7 @@ use Rattle.wt_text_edit_laws.specs.TextBetween.{ends_comment, ends_tag, ends_her
 use Rattle.wt_text_edit_laws.proofs.Between.ClosingTags.{not_less}
 use Rattle.wt_text_edit_laws.proofs.Between.LineTags.{TagWithin, IsFound}
 use Rattle.wt_text_edit_laws.proofs.Between.LineWords.{word_before, Within, or_within, entity_word_within}
-use Rattle.wt_beside_laws.specs.EndedNodes.{is_reference_byte, begins_name, may_be_reference, ReferencesEnd}
+use Rattle.wt_beside_laws.specs.References.{is_reference_byte, begins_name, may_be_reference, ReferencesEnd}
 use Rattle.wt_text_edit_laws.specs.ReadContents.{joins_reference, BeginsUnjoined}
 use Rattle.wt_beside_laws.proofs.Made.Sealed.{stops, closing_within}
 use Rattle.wt_beside_laws.proofs.Own.Words.{SemicolonEnds, OptReference, reference_ends}
@@ -45,7 +45,7 @@ get_front [] ys i lt = absurd (omega (arith, lt))
 get_front (x ∷ xs) ys zero lt = refl
 get_front (x ∷ xs) ys (suc i) lt = get_front xs ys i (omega (arith, lt))
 
-get_behind : (xs ys : List ℕ) → get_or (xs ++ ys) (length xs) 0 ≡ get_or ys 0 0
+pub get_behind : (xs ys : List ℕ) → get_or (xs ++ ys) (length xs) 0 ≡ get_or ys 0 0
 get_behind [] ys = refl
 get_behind (x ∷ xs) ys = get_behind xs ys
 

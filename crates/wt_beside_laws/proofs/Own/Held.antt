@@ -26,12 +26,11 @@ use Rattle.wt_guards.specs.Guards.{is_mark as is_mark_role}
 use Rattle.wt_tiles.specs.declared.glyph.Glyph.{Glyph}
 use Rattle.wt_tiles.specs.declared.glyph.Glyph.TheVariants as glyph
 use Rattle.wt_tiles.specs.Glyphs.{glyph_of, glyph_of_form}
-use Rattle.wt_text_edit_laws.specs.TextBetween.{ends_comment, ends_tag, ends_here}
+use Rattle.wt_text_edit_laws.specs.TextBetween.{ends_comment, ends_tag, ends_here, HasEnds}
 use Rattle.wt_text_edit_laws.proofs.Between.Fronts.{items_from, byte_from, form_from, first_from}
 use Rattle.wt_text_edit_laws.proofs.Cuts.ItemCuts.{page_from}
 use Rattle.wt_text_edit_laws.proofs.Texts.TypedItems.{items_cut}
 use Rattle.wt_beside_laws.specs.Commented.{LexemesEnd, BeginsShown, IsReadInLine, IsHeld}
-use Rattle.wt_beside_laws.specs.EndedNodes.{IsEndedSource}
 use Rattle.wt_beside_laws.specs.NodeItems.{node_items}
 use Rattle.wt_beside_laws.specs.Nodes.{IsNode}
 use Rattle.wt_beside_laws.specs.PageSigns.{HasNoBreak}
@@ -89,17 +88,17 @@ begun_none q h = by q (subst BeginsShown (are_from q) h) (comment_line_len q) re
     by (b ∷ bs) s (Some zero) e = let fits = form_fits Page true (b ∷ bs) (lex.CommentLine, zero) (line_word (b ∷ bs) 0 e) in absurd (omega (arith, fits.some))
     by (b ∷ bs) s (Some (suc j)) e = absurd (subst BeginsShown (form_from true b bs lex.CommentLine j (line_word (b ∷ bs) (suc j) e)) s)
 
-held_node : (r : Role) (q : List ℕ) → IsNode r (map glyph_of (node_items q)) → BeginsShown (node_items q) → ends_open q ≡ false → IsEndedSource q
+held_node : (r : Role) (q : List ℕ) → IsNode r (map glyph_of (node_items q)) → BeginsShown (node_items q) → ends_open q ≡ false → HasEnds q
     → HasNoBreak (node_items q) → IsReadInLine q
 held_node r q n s shut e u =
     let is : node_items q ≡ page_items q = node_is q (begun_none q s) in
     let unbroken : HasNoBreak (page_items q) = subst HasNoBreak is u in
-    let steps = source_steps q e.ends unbroken in
+    let steps = source_steps q e unbroken in
     let ends = subst LexemesEnd (sym (page_from q)) steps.ends in
     let stop = subst TagsStop (node_sources q) (node_stop r (node_items q) (subst LexemesEnd (sym is) ends) n) in
-    let settled : (rest : List ℕ) → Settled rest q = λ rest. record { stop = stop; shut = tags_shut q shut; references = inl e.references } in
     record {
-      reads = λ rest. source_reads q rest (settled rest) e.ends unbroken (subst (LastIs false) (page_sources q) (items_end (page_items q) unbroken ends));
+      reads = λ rest j.
+          source_reads q rest (record { stop = stop; shut = tags_shut q shut; references = j }) e unbroken (subst (LastIs false) (page_sources q) (items_end (page_items q) unbroken ends));
       begins = subst BeginsShown is s;
       unbroken = unbroken;
       ends = ends;
@@ -191,18 +190,18 @@ mark_by b q (Some (kind, suc j)) e h m i =
 
 -- ---- any node
 
-held_mark : (r : Role) (q : List ℕ) → IsNode r (map glyph_of (node_items q)) → IsOneMark (node_items q) → ends_open q ≡ false → IsEndedSource q
+held_mark : (r : Role) (q : List ℕ) → IsNode r (map glyph_of (node_items q)) → IsOneMark (node_items q) → ends_open q ≡ false → HasEnds q
     → HasNoBreak (node_items q) → IsHeld q
 held_mark r [] n m shut e u = let no : [] ≡ whole m.form m.origin m.bytes ∷ [] = sym (are_from []) ∙ m.is in absurd (cc)
 held_mark r (b ∷ q) n m shut e u =
     let bytes : m.bytes ≡ b ∷ q = sym (append-nil m.bytes) ∙ ap sources (sym m.is) ∙ node_sources (b ∷ q) in
     let one : IsOneMark (items_from true 0 (b ∷ q)) = record { form = m.form; origin = m.origin; bytes = m.bytes; is = sym (are_from (b ∷ q)) ∙ m.is; mark = m.mark } in
-    elim (mark_by b q (form_at Page true (b ∷ q)) refl e.ends.0 one bytes) [
+    elim (mark_by b q (form_at Page true (b ∷ q)) refl e.0 one bytes) [
       | inl held ↦ held
       | inr shown ↦ inr (inr (inr (held_node r (b ∷ q) n (subst BeginsShown (sym (are_from (b ∷ q))) shown) shut e u)))
     ]
 
-pub node_held : (r : Role) (q : List ℕ) → IsNode r (map glyph_of (node_items q)) → ends_open q ≡ false → IsEndedSource q → HasNoBreak (node_items q) → IsHeld q
+pub node_held : (r : Role) (q : List ℕ) → IsNode r (map glyph_of (node_items q)) → ends_open q ≡ false → HasEnds q → HasNoBreak (node_items q) → IsHeld q
 node_held r q n shut e u = by (is_mark_role r) refl
   where
     by : (v : Bool) → is_mark_role r ≡ v → IsHeld q

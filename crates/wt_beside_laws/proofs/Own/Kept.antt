@@ -27,7 +27,6 @@ use Rattle.wt_text_edit_laws.specs.TypedHeadings.{equals, opening, closing_items
 use Rattle.wt_text_edit_laws.proofs.Blocks.BlocksAgain.{framed_utf8}
 use Rattle.wt_text_edit_laws.proofs.Blocks.BlockReading.{AreQuiet, each_quiet, opening_quiet, quiet_joined, run_quiet, blanks_quiet}
 use Rattle.wt_text_edit_laws.proofs.Headings.HeadingRows.{inside_unbroken}
-use Rattle.wt_beside_laws.specs.Calm.{AreCalm}
 use Rattle.wt_beside_laws.specs.Commented.{IsHeld}
 use Rattle.wt_beside_laws.specs.EndedNodes.{AreEndedNodes}
 use Rattle.wt_beside_laws.specs.FlatBlocks.{lines_in, begins_at, signs_in}
@@ -41,6 +40,7 @@ use Rattle.wt_beside_laws.proofs.FlatContents.{each_unbroken, lines_unbroken}
 use Rattle.wt_beside_laws.specs.Lines.{AreUnbroken}
 use Rattle.wt_beside_laws.proofs.HeldLines.{heading_break}
 use Rattle.wt_beside_laws.proofs.Made.OwnPages.{own_frame, page_items_of}
+use Rattle.wt_beside_laws.proofs.Made.Written.{to_utf8}
 use Rattle.wt_beside_laws.proofs.PageSigns.{flat_nodes}
 use Rattle.wt_beside_laws.proofs.Styled.OldShut.{content_shut}
 use Rattle.wt_beside_laws.proofs.Own.Alone.{alone}
@@ -188,11 +188,6 @@ each_held [] n s e u = tt
 each_held (letter c ∷ after) n s e u = each_held after n s e u
 each_held (thing t ∷ after) n s e u = (node_held t.role t.source n.0 s.0 e.0 (no_break (node_items t.source) u.0), each_held after n.1 s.1 e.1 u.1)
 
-each_calm : (signs : List ContentSign) → EachSource IsUtf8 signs → AreEndedNodes signs → AreCalm signs
-each_calm [] u e = tt
-each_calm (letter c ∷ after) u e = each_calm after u e
-each_calm (thing t ∷ after) u e = (record { utf8 = u.0; unpaired = e.0.unpaired }, each_calm after u.1 e.1)
-
 pub content_styled : (k : TextBlock) (q : List ℕ) → IsContent k q → CallsNothing (block_items k q) → AreEndedNodes (signs_in k q) → IsStyledIn k q
 content_styled k q h c e =
     let own = content_own k q h c in
@@ -209,6 +204,6 @@ content_styled k q h c e =
       has_items = h.has_items;
       flat = own.flat;
       kept = to_kept signs (lines_tied (begins_at k) (lines_in k q)) (each_held signs nodes shut e unbroken);
-      calm = each_calm signs own.utf8 e;
+      nodes_utf8 = to_utf8 signs own.utf8;
       shut = shut;
     }

@@ -40,6 +40,7 @@ use Rattle.wt_beside_laws.specs.Kept.{characters, sign}
 use Rattle.wt_beside_laws.specs.PageBlocks.{AreShut}
 use Rattle.wt_beside_laws.specs.PageSigns.{signs_of_lines, AreFlatLines}
 use Rattle.wt_beside_laws.specs.StyledIn.{IsStyledIn}
+use Rattle.wt_beside_laws.proofs.CalmContents.{calm_utf8}
 use Rattle.wt_beside_laws.proofs.Firm.{alone_as, parts_read}
 use Rattle.wt_beside_laws.proofs.Edits.Cases.{break_node, break_held, break_calm}
 
@@ -105,6 +106,6 @@ italic_and_break =
       has_items = h.has_items;
       flat = h.flat;
       kept = h.kept;
-      calm = h.calm;
+      nodes_utf8 = calm_utf8 (signs_of_lines 0 (lines (page_items own))) h.calm;
       shut = h.shut;
     }

@@ -38,7 +38,7 @@ use Rattle.wt_text_edit_laws.specs.NoCalls.{CallsNothing}
 use Rattle.wt_text_edit_laws.specs.ParagraphParts.{joined_parts}
 use Rattle.wt_text_edit_laws.specs.TextBlocks.{TextBlock, block_of, block_items, block_tree}
 use Rattle.wt_text_edit_laws.proofs.Blocks.BlockLeaves.{open_items, close_items}
-use Rattle.wt_beside_laws.specs.Calm.{AreCalm}
+use Rattle.wt_beside_laws.specs.Calm.{AreUtf8Nodes}
 use Rattle.wt_beside_laws.specs.Content.{AreKept}
 use Rattle.wt_beside_laws.specs.FlatBlocks.{lines_in, begins_at, signs_in}
 use Rattle.wt_beside_laws.specs.HeldLines.{AreHeldLines}
@@ -225,8 +225,8 @@ content_shut k q h f =
     own_shut k q f (ap any_ends_open (sym (inside_is t)) ∙ (h.untangled nowhere t refl).0)
 
 pub content_styled : (k : TextBlock) (q : List ℕ) → IsContent k q → CallsNothing (block_items k q) → AreHeldLines (lines_in k q)
-    → AreKept (signs_in k q) → AreCalm (signs_in k q) → IsStyledIn k q
-content_styled k q h none held kept calm =
+    → AreKept (signs_in k q) → AreUtf8Nodes (signs_in k q) → IsStyledIn k q
+content_styled k q h none held kept utf8 =
     let flat : AreFlatLines (lines_in k q) = content_flat k q h.is held kept in
     record {
       utf8 = h.utf8;
@@ -237,6 +237,6 @@ content_styled k q h none held kept calm =
       has_items = h.has_items;
       flat = flat;
       kept = kept;
-      calm = calm;
+      nodes_utf8 = utf8;
       shut = content_shut k q h flat;
     }

@@ -12,7 +12,6 @@ use Rattle.wt_part_laws.specs.Standing.{standing}
 use Rattle.wt_typed_blocks.specs.Edited.{Pieces}
 use Rattle.wt_text_edit_laws.specs.TextBlocks.{TextBlock, block_tree}
 use Rattle.wt_beside_laws.specs.ContentEdits.{MakesContent, new_content}
-use Rattle.wt_beside_laws.specs.Flat.{IsReadIn}
 use Rattle.wt_beside_laws.specs.FlatBlocks.{sent_for}
 use Rattle.wt_beside_laws.specs.Lines.{line_items, later_lines, content_lines}
 use Rattle.wt_beside_laws.specs.Nodes.{AreNodes, AllMeet}
@@ -23,6 +22,7 @@ use Rattle.wt_beside_laws.proofs.LineItems.{content_lines_are}
 use Rattle.wt_beside_laws.proofs.Made.Making.{setting, in_page}
 use Rattle.wt_beside_laws.proofs.Made.OldBlocks.{IsIn}
 use Rattle.wt_beside_laws.proofs.Marks.Commented.{content_alone}
+use Rattle.wt_beside_laws.proofs.Marks.Unjoined.{styled_read}
 use Rattle.wt_beside_laws.proofs.Styled.Making.{IsSentWell, sent_well, content_is, own_so, styled_makes}
 use Rattle.wt_beside_laws.proofs.Styled.StyledLines.{nodes_behind, within_style, line_even}
 use Rattle.wt_beside_laws.proofs.Styled.StyledParagraphs.{none_later, meet_behind}
@@ -57,9 +57,6 @@ later_even s before (styled kind opening closing inside t) n k m =
 lines_even : (s : Setting) (t : StyledContent) → IsStyledContent s t → AllByRecursion HasEvenToggles (content_lines s (signs_in t))
 lines_even s t h = (even s [] t h.nodes h.nested h.meet, later_even s [] t h.nodes h.nested h.meet)
 
-reads : (s : Setting) (t : StyledContent) → IsStyledContent s t → IsReadIn s (signs_in t)
-reads s t h = record { within = h.of_block; kept = h.kept; nodes = h.nodes; led = h.led }
-
 -- ---- the new content
 
 apart : (k : TextBlock) (q : List ℕ) (block : Tree) (m : Label) (ps : Pieces) → IsStyledIn k q → IsIn k q block → IsStyledEditOf k block ps
@@ -71,11 +68,11 @@ apart k q block m ps h i e made =
     let now : List ℕ = new_content k block m ps in
     let is : now ≡ spelled s (signs_in t) = content_is k q block m ps i e w in
     let lines_so : lines (page_items now) ≡ content_lines s (signs_in t) =
-    ap (λ (bs : List ℕ). lines (page_items bs)) is ∙ content_lines_are s (signs_in t) (reads s t w.is.content) w.is.content.unbroken in
+    ap (λ (bs : List ℕ). lines (page_items bs)) is ∙ content_lines_are s (signs_in t) (styled_read s t w.is.content) w.is.content.unbroken in
     record {
       setting = s;
       is = is;
-      items = ap page_items is ∙ content_alone s (signs_in t) (reads s t w.is.content);
+      items = ap page_items is ∙ content_alone s (signs_in t) (styled_read s t w.is.content);
       toggles = subst (AllByRecursion HasEvenToggles) (sym lines_so) (lines_even s t w.is.content);
       shows = λ rest. sym (made.shows rest);
     }

@@ -24,6 +24,7 @@ use Rattle.wt_beside_laws.specs.Commented.{IsHeld}
 use Rattle.wt_beside_laws.specs.Lines.{AreCharacters, line_items, later_lines, content_lines}
 use Rattle.wt_beside_laws.specs.Nests.{marks}
 use Rattle.wt_beside_laws.specs.Nodes.{AreNodes, AllMeet}
+use Rattle.wt_beside_laws.proofs.Marks.Unjoined.{styled_read}
 use Rattle.wt_beside_laws.specs.PageBlocks.{AreShut}
 use Rattle.wt_beside_laws.specs.PageSigns.{line_signs, signs_of_lines, AreFlatTiles, AreFlatLines}
 use Rattle.wt_beside_laws.specs.Styled.{StyledContent, finished, sign, styled, mark_source, delimiter, signs_before, signs_in, signs_past, AreNested, IsStyledContent}
@@ -191,7 +192,7 @@ all_styled Q p s t h q =
 all_unbroken : (s : Setting) (t : StyledContent) → IsStyledContent s t → Unbroken (content_lines s (signs_in t))
 all_unbroken s t h =
     let xs : List Item = page_items (spelled s (signs_in t)) in
-    subst Unbroken (content_lines_are s (signs_in t) (record { within = h.of_block; kept = h.kept; nodes = h.nodes; led = h.led }) h.unbroken) (unbroken_lines (lines xs) xs (lines_are xs))
+    subst Unbroken (content_lines_are s (signs_in t) (styled_read s t h) h.unbroken) (unbroken_lines (lines xs) xs (lines_are xs))
 
 flat_lines : (Q : List ℕ → Type 0) (ls : List (List Item)) → Unbroken ls → StyledLines Q ls → AreFlatLines ls
 flat_lines Q [] b f = tt

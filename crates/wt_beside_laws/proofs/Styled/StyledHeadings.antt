@@ -22,6 +22,7 @@ use Rattle.wt_beside_laws.specs.StyledHeadings.{IsStyledHeading}
 use Rattle.wt_beside_laws.proofs.LineHeadings.{same_items, inside_by, level_by}
 use Rattle.wt_beside_laws.proofs.Styled.StyledLines.{styled_line}
 use Rattle.wt_beside_laws.proofs.Marks.Commented.{content_alone}
+use Rattle.wt_beside_laws.proofs.Marks.Unjoined.{meet_unjoined, styled_read}
 use Rattle.wt_beside_laws.specs.NodeItems.{node_items}
 
 one_behind : (t : StyledContent) (after : List ContentSign) → AreOnOneLine (signs_before t after) → AreOnOneLine after
@@ -53,15 +54,18 @@ same_parts s before (styled kind opening closing inside t) after o =
 
 pub styled_inside : (s : Setting) (t : StyledContent) → IsStyledHeading s t → IsHeadingInside (page_items (spelled s (signs_in t)))
 styled_inside s t h =
-    inside_by s (signs_in t) h.styled.of_block h.of_heading h.styled.kept h.styled.unbroken h.styled.characters h.styled.nodes h.styled.led h.one_line
+    inside_by s (signs_in t) h.styled.of_block h.of_heading h.styled.kept h.styled.unbroken h.styled.characters h.styled.nodes
+    (meet_unjoined s [] (signs_in t) h.styled.nodes h.styled.meet) h.styled.led h.one_line
 
 pub styled_level : (s : Setting) (t : StyledContent) (sides : Sides) → IsStyledHeading s t → AreSides sides → KeepsLevel sides (signs_in t)
     → IsOfLevel sides (page_items (spelled s (signs_in t)))
-styled_level s t sides h a k = level_by s (signs_in t) sides h.styled.of_block h.styled.kept h.styled.characters h.styled.nodes h.styled.led h.one_line a k
+styled_level s t sides h a k =
+    level_by s (signs_in t) sides h.styled.of_block h.styled.kept h.styled.characters h.styled.nodes (meet_unjoined s [] (signs_in t) h.styled.nodes h.styled.meet) h.styled.led
+    h.one_line a k
 
 pub inside_parts : (s : Setting) (t : StyledContent) → IsStyledHeading s t → line_parts (page_items (spelled s (signs_in t))) ≡ styled_parts false s [] t []
 inside_parts s t h =
-    ap line_parts (content_alone s (signs_in t) (record { within = h.styled.of_block; kept = h.styled.kept; nodes = h.styled.nodes; led = h.styled.led }) ∙ sym (same_items s [] (signs_in t) h.one_line))
+    ap line_parts (content_alone s (signs_in t) (styled_read s t h.styled) ∙ sym (same_items s [] (signs_in t) h.one_line))
     ∙ styled_line s [] t h.styled.nodes h.styled.nested h.styled.meet
     ∙ same_parts s [] t [] h.one_line
 

@@ -34,6 +34,7 @@ use Rattle.wt_beside_laws.proofs.LineRows.{rows_parts, content_own, later_by, bo
 use Rattle.wt_beside_laws.proofs.LineStands.{ContentLines, lines_by, unbroken_rows, stands_so}
 use Rattle.wt_beside_laws.proofs.Styled.StyledLines.{nodes_behind, within_style, styled_line}
 use Rattle.wt_beside_laws.proofs.Marks.Commented.{content_alone}
+use Rattle.wt_beside_laws.proofs.Marks.Unjoined.{styled_read}
 use Rattle.wt_beside_laws.specs.NodeItems.{node_items}
 
 -- ---- the lines behind a place
@@ -128,11 +129,11 @@ styled_paragraph : (s : Setting) (t : StyledContent) → IsStyledContent s t →
 styled_paragraph s t h =
     let signs : List ContentSign = signs_in t in
     let xs : List Item = page_items (spelled s signs) in
-    let is = content_lines_are s signs (record { within = h.of_block; kept = h.kept; nodes = h.nodes; led = h.led }) h.unbroken in
+    let is = content_lines_are s signs (styled_read s t h) h.unbroken in
     let all : (n : ℕ) → All (IsLineOfText n) (map content (full_lines xs) ++ empty_end xs) =
     λ n. subst (All (IsLineOfText n)) (sym is ∙ same_lines xs) (lines_are_text n s signs h.of_block h.characters h.nodes) in
     let closed : empty_end xs ≡ [] = no_end 0 xs (rest_all (IsLineOfText 0) (map content (full_lines xs)) (empty_end xs) (all 0)) in
-    let own : OwnBreaks xs = subst OwnBreaks (sym (content_alone s signs (record { within = h.of_block; kept = h.kept; nodes = h.nodes; led = h.led }))) (content_own s [] signs h.unbroken) in
+    let own : OwnBreaks xs = subst OwnBreaks (sym (content_alone s signs (styled_read s t h))) (content_own s [] signs h.unbroken) in
     record {
       text = λ n. front_all (IsLineOfText n) (map content (full_lines xs)) (empty_end xs) (all n);
       unled = lines_unled 0 xs (subst (AreLinesOfText 0) (sym is) (are_lines_of_text 0 s signs h.of_block h.led.first h.characters h.nodes));

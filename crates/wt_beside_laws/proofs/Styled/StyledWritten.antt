@@ -11,14 +11,17 @@ use Rattle.wt_inline.specs.Parts.{Part, children}
 use Rattle.wt_part_laws.specs.Rounded.{AllHaveItems}
 use Rattle.wt_text_edit_laws.specs.Contents.{AreParagraphLines, IsContentOf, content_parts_of, StaysAnywhere, IsNewContent}
 use Rattle.wt_text_edit_laws.specs.ParagraphParts.{joined_parts}
-use Rattle.wt_text_edit_laws.specs.TextBlocks.{TextBlock, a_paragraph, a_heading}
+use Rattle.wt_text_edit_laws.specs.TextBlocks.{TextBlock, a_paragraph, a_heading, source_of, block_items}
 use Rattle.wt_text_edit_laws.specs.TypedHeadings.{Sides}
 use Rattle.wt_text_edit_laws.proofs.Between.ClosingTags.{Unclosed, unclosed_untagged}
 use Rattle.wt_text_edit_laws.proofs.Blocks.BlockReading.{IsBeforeAny, HasFrame}
 use Rattle.wt_text_edit_laws.proofs.Texts.TypedShown.{AllOfPage}
-use Rattle.wt_text_edit_laws.specs.NoCalls.{AreUnpaired}
+use Rattle.std.specs.Str.{IsUtf8}
+use Rattle.wt_text_edit_laws.specs.NoCalls.{Brace, NonePairs, CallsNothing, braces_of, IsSome}
+use Rattle.wt_text_edit_laws.proofs.Between.LessBraces.{pairs_some, some_some}
+use Rattle.wt_text_edit_laws.proofs.Blocks.TypedBraces.{block_braces, source_braces}
 use Rattle.wt_text_edit_laws.proofs.Paragraphs.SeenLines.{texts_seen}
-use Rattle.wt_beside_laws.specs.Calm.{IsCalm, AreCalm}
+use Rattle.wt_beside_laws.specs.Calm.{AreUtf8Nodes}
 use Rattle.wt_beside_laws.specs.Content.{AreKept}
 use Rattle.wt_beside_laws.specs.FlatBlocks.{lines_in, begins_at, signs_in as signs_of}
 use Rattle.wt_beside_laws.specs.Lines.{content_lines}
@@ -30,7 +33,7 @@ use Rattle.wt_beside_laws.specs.StyledHeadings.{IsStyledHeading}
 use Rattle.wt_beside_laws.specs.StyledIn.{IsStyledIn, StaysIn, IsStyledFor}
 use Rattle.wt_beside_laws.specs.StyledNodes.{IsPut, AreSomeAndPut}
 use Rattle.wt_beside_laws.proofs.Each.{Each}
-use Rattle.wt_beside_laws.proofs.CalmContents.{content_utf8, content_unpaired, content_unclosed, nowiki_calm}
+use Rattle.wt_beside_laws.proofs.CalmContents.{content_utf8, braces_in, content_braces, content_unclosed}
 use Rattle.wt_beside_laws.proofs.FlatAgain.{EachSource, IsShut, put_shut, from_shut, to_shut}
 use Rattle.wt_beside_laws.proofs.LineItems.{content_lines_are}
 use Rattle.wt_beside_laws.proofs.Made.Closes.{guard_closes, OpenFor, content_closes, block_open}
@@ -39,20 +42,17 @@ use Rattle.wt_beside_laws.proofs.Made.Levels.{BareTold, Told, AllTold, told_each
 use Rattle.wt_beside_laws.proofs.Made.NodesSealed.{nodes_sealed}
 use Rattle.wt_beside_laws.proofs.Made.OldBlocks.{lines_are}
 use Rattle.wt_beside_laws.proofs.Made.OwnPages.{own_frame}
-use Rattle.wt_beside_laws.proofs.Made.Written.{FitsIn, lines_by, before_any, uncommented, firm, ended_so, unended_so, texts_by, unled_by, calls_none, from_calm, to_calm, put_calm}
+use Rattle.wt_beside_laws.proofs.Marks.Unjoined.{meet_unjoined, styled_read}
+use Rattle.wt_beside_laws.proofs.Made.Written.{FitsIn, lines_by, before_any, uncommented, firm, ended_so, unended_so, texts_by, unled_by, from_utf8, to_utf8, put_utf8}
+use Rattle.wt_beside_laws.proofs.Made.FewerBraces.{page_some, nodes_some}
 use Rattle.wt_beside_laws.proofs.OwnItems.{content_own}
 use Rattle.wt_beside_laws.proofs.Styled.HeldStyles.{styled_have_items}
 use Rattle.wt_beside_laws.proofs.Styled.OldStyled.{styled_in_content}
 use Rattle.wt_beside_laws.proofs.Styled.StyledAgain.{quotes_utf8, again_each, again_lines, again_kept, again_shut}
 use Rattle.wt_beside_laws.proofs.Styled.StyledHeadings.{styled_inside, inside_parts}
-use Rattle.wt_beside_laws.proofs.Styled.StyledLines.{mark_items}
 use Rattle.wt_beside_laws.proofs.Styled.StyledNodes.{each_some}
 use Rattle.wt_beside_laws.proofs.Styled.StyledParagraphs.{lines_joined}
-use Rattle.wt_beside_laws.specs.Flat.{IsReadIn}
 use Rattle.wt_beside_laws.specs.NodeItems.{node_items}
-
-read_styled : (s : Setting) (t : StyledContent) → IsStyledContent s t → IsReadIn s (signs_in t)
-read_styled s t h = record { within = h.of_block; kept = h.kept; nodes = h.nodes; led = h.led }
 
 -- ---- its lines and parts
 
@@ -64,22 +64,22 @@ as_heading : (w : Sides) (s : Setting) (t : StyledContent) → IsStyledContent s
 as_heading w s t c h = record { styled = c; of_heading = h.0; one_line = h.1 }
 
 pub lines_so : (k : TextBlock) (s : Setting) (t : StyledContent) → IsStyledContent s t → StaysIn k s t → lines_in k (spelled s (signs_in t)) ≡ content_lines s (signs_in t)
-lines_so k s t c h = lines_by k s (signs_in t) (read_styled s t c) c.unbroken (fits_of k s t h)
+lines_so k s t c h = lines_by k s (signs_in t) (styled_read s t c) c.unbroken (fits_of k s t h)
 
 pub styled_parts_so : (k : TextBlock) (s : Setting) (t : StyledContent) → IsStyledContent s t → StaysIn k s t
     → content_parts_of k (page_items (spelled s (signs_in t))) ≡ styled_parts false s [] t []
 styled_parts_so a_paragraph s t c h =
-    ap joined_parts (content_lines_are s (signs_in t) (read_styled s t c) c.unbroken) ∙ lines_joined s [] t c.nodes c.nested c.meet
+    ap joined_parts (content_lines_are s (signs_in t) (styled_read s t c) c.unbroken) ∙ lines_joined s [] t c.nodes c.nested c.meet
 styled_parts_so (a_heading w) s t c h = inside_parts s t (as_heading w s t c h)
 
 stays_so : (k : TextBlock) (s : Setting) (t : StyledContent) → IsStyledContent s t → StaysAnywhere k (spelled s (signs_in t))
-stays_so a_paragraph s t c = λ n. texts_by n s (signs_in t) (read_styled s t c) c.characters c.unbroken
+stays_so a_paragraph s t c = λ n. texts_by n s (signs_in t) (styled_read s t c) c.characters c.unbroken
 stays_so (a_heading w) s t c = tt
 
 lines_of_text : (s : Setting) (t : StyledContent) → IsStyledContent s t → AreParagraphLines (spelled s (signs_in t))
 lines_of_text s t c = record {
-  seen = texts_seen 0 (lines (page_items (spelled s (signs_in t)))) (texts_by 0 s (signs_in t) (read_styled s t c) c.characters c.unbroken);
-  unled = unled_by s (signs_in t) (read_styled s t c) c.characters c.unbroken;
+  seen = texts_seen 0 (lines (page_items (spelled s (signs_in t)))) (texts_by 0 s (signs_in t) (styled_read s t c) c.characters c.unbroken);
+  unled = unled_by s (signs_in t) (styled_read s t c) c.characters c.unbroken;
 }
 
 -- a delimiter and a nowiki are no URL
@@ -99,7 +99,7 @@ content_so (a_heading g) q s t f h w =
     record {
       frame = f;
       inside = inl (styled_inside s t (as_heading g s t c w.stays));
-      of_level = level_told s (signs_in t) g c.of_block c.kept c.characters c.nodes c.led w.stays.1 told f.sides;
+      of_level = level_told s (signs_in t) g c.of_block c.kept c.characters c.nodes (meet_unjoined s [] (signs_in t) c.nodes c.meet) c.led w.stays.1 told f.sides;
     }
 
 -- ---- what holds of the sources of the page's nodes and of what is put holds of its sources
@@ -125,10 +125,6 @@ some_source : (Q : List ℕ → Type 0) (olds news : List ContentSign) → ((kin
 some_source Q olds news f g some h =
     each_source Q news (each_some (λ t. Q t.source) (put_source Q f g) (things news) (things olds) some (source_each Q olds h))
 
-mark_calm : (kind : Bool) → IsCalm (mark_source kind)
-mark_calm true = record { utf8 = quotes_utf8 true; unpaired = subst AreUnpaired (sym (mark_items true)) refl }
-mark_calm false = record { utf8 = quotes_utf8 false; unpaired = subst AreUnpaired (sym (mark_items false)) refl }
-
 mark_shut : (kind : Bool) → IsShut (mark_source kind)
 mark_shut true = refl
 mark_shut false = refl
@@ -137,9 +133,24 @@ mark_closes : (kind : Bool) (name rest : List ℕ) → Unclosed name rest → Un
 mark_closes true name rest h = unclosed_untagged name (mark_source true) rest refl h
 mark_closes false name rest h = unclosed_untagged name (mark_source false) rest refl h
 
-calm_so : (k : TextBlock) (q : List ℕ) (s : Setting) (t : StyledContent) → IsStyledIn k q → IsStyledFor k q s t → AreCalm (signs_in t)
-calm_so k q s t h w =
-    to_calm (signs_in t) (some_source IsCalm (signs_of k q) (signs_in t) mark_calm nowiki_calm w.nodes (from_calm (signs_of k q) h.calm))
+utf8_so : (k : TextBlock) (q : List ℕ) (s : Setting) (t : StyledContent) → IsStyledIn k q → IsStyledFor k q s t → AreUtf8Nodes (signs_in t)
+utf8_so k q s t h w =
+    to_utf8 (signs_in t) (some_source IsUtf8 (signs_of k q) (signs_in t) quotes_utf8 put_utf8.of_nowiki w.nodes (from_utf8 (signs_of k q) h.nodes_utf8))
+
+-- of two braces side by side it has none, or some of those of the old content
+braces_so : (k : TextBlock) (q : List ℕ) (s : Setting) (t : StyledContent) → IsStyledIn k q → IsStyledFor k q s t
+    → IsSome (braces_of (page_items (spelled s (signs_in t)))) (braces_of (page_items q))
+braces_so k q s t h w =
+    subst (λ (bs : List Brace). IsSome bs (braces_of (page_items q))) (sym (content_braces s (signs_in t) (styled_read s t w.content)))
+    (some_some (braces_in (things (signs_in t))) (braces_in (things (signs_of k q))) (braces_of (page_items q))
+    (nodes_some (things (signs_in t)) (things (signs_of k q)) w.nodes) (page_some k q h.flat))
+
+calls_none : (k : TextBlock) (q : List ℕ) (s : Setting) (t : StyledContent) → HasFrame k → IsStyledIn k q → IsStyledFor k q s t
+    → CallsNothing (block_items k (spelled s (signs_in t)))
+calls_none k q s t f h w =
+    let now : List ℕ = spelled s (signs_in t) in
+    subst NonePairs (sym (block_braces k now f))
+    (pairs_some (braces_of (page_items now)) (braces_of (page_items q)) (braces_so k q s t h w) (subst NonePairs (block_braces k q f) h.calls_nothing))
 
 shut_so : (k : TextBlock) (q : List ℕ) (s : Setting) (t : StyledContent) → IsStyledIn k q → IsStyledFor k q s t → AreShut (signs_in t)
 shut_so k q s t h w =
@@ -162,22 +173,22 @@ styled_again k q s t h w =
     let signs : List ContentSign = signs_in t in
     let c : IsStyledContent s t = w.content in
     let f : HasFrame k = own_frame k q h.is in
-    let b : IsBeforeAny (spelled s signs) = before_any s signs (read_styled s t c) in
-    let calm : AreCalm signs = calm_so k q s t h w in
+    let b : IsBeforeAny (spelled s signs) = before_any s signs (styled_read s t c) in
+    let own : AreUtf8Nodes signs = utf8_so k q s t h w in
     let held = held_so k q s t h w in
     let parts : content_parts_of k (page_items (spelled s signs)) ≡ styled_parts false s [] t [] = styled_parts_so k s t c w.stays in
     let at : ℕ = begins_at k in
     record {
-      utf8 = content_utf8 s signs c.characters calm;
+      utf8 = content_utf8 s signs c.characters own;
       ended = ended_so k (spelled s signs) f b;
       unended = unended_so k (spelled s signs) f b;
       is = content_so k q s t f h w;
-      calls_nothing = calls_none k s signs f (read_styled s t c) calm;
+      calls_nothing = calls_none k q s t f h w;
       has_items = subst (λ (ps : List Part). AllHaveItems (forest (children ps))) (sym parts) held.0;
       flat = of_lines_so AreFlatLines k s t c w.stays (again_lines s t c);
       kept = of_lines_so (λ (ls : List (List Item)). AreKept (signs_of_lines at ls)) k s t c w.stays (again_kept at s t c);
-      calm = of_lines_so (λ (ls : List (List Item)). AreCalm (signs_of_lines at ls)) k s t c w.stays
-          (to_calm (signs_of_lines at (content_lines s signs)) (again_each IsCalm put_calm at s t c (from_calm signs calm)));
+      nodes_utf8 = of_lines_so (λ (ls : List (List Item)). AreUtf8Nodes (signs_of_lines at ls)) k s t c w.stays
+          (to_utf8 (signs_of_lines at (content_lines s signs)) (again_each IsUtf8 put_utf8 at s t c (from_utf8 signs own)));
       shut = of_lines_so (λ (ls : List (List Item)). AreShut (signs_of_lines at ls)) k s t c w.stays (again_shut at s t c (shut_so k q s t h w));
     }
 
@@ -196,15 +207,24 @@ closes_so k q s t h w name us vs o g =
     (each_some (OpenFor name) (put_open name vs g) (things (signs_in t)) (things (signs_of k q)) w.nodes (block_open k q name us o))
     (nodes_sealed (signs_in t) w.content.nodes w.content.kept) g
 
+fewer_so : (k : TextBlock) (q : List ℕ) (s : Setting) (t : StyledContent) → IsStyledIn k q → IsStyledFor k q s t
+    → IsSome (braces_of (page_items (source_of k (spelled s (signs_in t))))) (braces_of (page_items (source_of k q)))
+fewer_so k q s t h w =
+    let now : List ℕ = spelled s (signs_in t) in
+    let f : HasFrame k = own_frame k q h.is in
+    let again : IsStyledIn k now = styled_again k q s t h w in
+    subst (λ (bs : List Brace). IsSome bs (braces_of (page_items (source_of k q)))) (sym (source_braces k now f again.unended))
+    (subst (λ (bs : List Brace). IsSome (braces_of (page_items now)) bs) (sym (source_braces k q f h.unended)) (braces_so k q s t h w))
+
 pub styled_new : (k : TextBlock) (q : List ℕ) (s : Setting) (t : StyledContent) → IsStyledIn k q → IsStyledFor k q s t → IsNewContent k q (spelled s (signs_in t))
 styled_new k q s t h w = record {
   firm = record {
     content = styled_in_content k (spelled s (signs_in t)) (styled_again k q s t h w);
-    firm = λ rest b j. firm s (signs_in t) rest (read_styled s t w.content) b;
-    uncommented = λ rest b j. uncommented s (signs_in t) rest (read_styled s t w.content) b;
+    firm = λ rest b j. firm s (signs_in t) rest (styled_read s t w.content) b j;
+    uncommented = λ rest b j. uncommented s (signs_in t) rest (styled_read s t w.content) b j;
     stays = stays_so k s t w.content;
-    unpaired = content_unpaired s (signs_in t) (read_styled s t w.content) (calm_so k q s t h w);
-    unclosed = content_unclosed s (signs_in t) (read_styled s t w.content) (calm_so k q s t h w);
+    unclosed = content_unclosed s (signs_in t) (styled_read s t w.content);
   };
+  fewer = inr (subst CallsNothing (sym h.unended) h.calls_nothing, fewer_so k q s t h w);
   closes = λ name us vs o n. closes_so k q s t h w name us vs o n;
 }

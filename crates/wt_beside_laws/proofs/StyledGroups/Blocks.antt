@@ -9,8 +9,8 @@ use Rattle.wt_guards.specs.Guards.{Setting, is_guarded}
 use Rattle.wt_guards.specs.Letters.{is_escaped}
 use Rattle.wt_lines.specs.Lines.{lines}
 use Rattle.wt_inline.specs.ItemTree.{ItemTree, plain, tree_items}
-use Rattle.wt_inline.specs.Parts.{Part, held_parts, loose, node, parts}
-use Rattle.wt_inline.specs.declared.loose.Loose.TheVariants.{Sep, Text}
+use Rattle.wt_inline.specs.Parts.{Part, held_parts, node, parts}
+use Rattle.wt_inline.specs.declared.loose.Loose.TheVariants.{Text}
 use Rattle.wt_context.proofs.PlainNodes.{AreTexts, text_parts, texts_both}
 use Rattle.wt_context.specs.Line.{line_parts}
 use Rattle.wt_annotated.specs.Clean.{is_page}

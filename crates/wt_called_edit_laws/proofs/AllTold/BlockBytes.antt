@@ -33,7 +33,7 @@ use Rattle.wt_called_edit_laws.proofs.AllTold.RowBlocks.{body_none, below, block
 
 -- ---- where a node ends
 
-abbrev end_byte : Option Ranges → ℕ
+abbrev pub end_byte : Option Ranges → ℕ
 end_byte None = 0
 end_byte (Some r) = r.end
 
@@ -57,7 +57,7 @@ mutual
   end_among n at zero is (more t ts) u e = settled_end n at is t u e
   end_among n at (suc i) is (more t ts) u e = end_among (n + count t) (at + length (flat t)) i is ts u e
 
-node_ends : (pages : Pages) (page : List ℕ) (i : ℕ) (is : List ℕ) (u : Tree) → IsUtf8 page → refusal_of_page pages page ≡ None
+pub node_ends : (pages : Pages) (page : List ℕ) (i : ℕ) (is : List ℕ) (u : Tree) → IsUtf8 page → refusal_of_page pages page ≡ None
     → IsReachedIn i is (children (called_tree pages page)) u → end_byte (label u).ranges ≡ first_byte (label u).ranges + length (flat u)
 node_ends pages page i is u utf8 unrefused e =
     let t : Tree = called_tree pages page in
@@ -90,7 +90,7 @@ of_page : (o : Option ℕ) → is_no_call o ≡ true → o ≡ None
 of_page None e = refl
 of_page (Some k) e = absurd (cc)
 
-own_some : (calls : List OuterCall) (o : Option ℕ) (xs : List Item) → AreOnes xs → list_any is_page xs ≡ true → 1 ≤ length (text_from calls o xs)
+pub own_some : (calls : List OuterCall) (o : Option ℕ) (xs : List Item) → AreOnes xs → list_any is_page xs ≡ true → 1 ≤ length (text_from calls o xs)
 own_some calls o [] h e = absurd (cc)
 own_some calls o (x ∷ xs) h e = by (is_page x) refl (λ rest. own_some calls (call_of x) xs h.1 rest)
   where

@@ -66,7 +66,7 @@ block_starts at (b ∷ bs) =
     (at + size (joined b.before) + size b.marks) ∷ block_starts (at + size (joined b.before) + size (joined ((b.marks ++ b.first) ∷ b.more))) bs
 
 -- nothing is before them, or a line break of the page's own
-abbrev Seam : List Item → List Item → List LinedBlock → Type 0
+abbrev pub Seam : List Item → List Item → List LinedBlock → Type 0
 Seam fr es [] = Unit {0}
 Seam fr es (b ∷ bs) = ((fr ≡ []) × (es ≡ [])) ⊎ (es ≡ break ∷ [])
 
@@ -74,7 +74,7 @@ own_first : (calls : List OuterCall) (o : Option ℕ) (xs : List Item) → text_
 own_first calls o xs =
     ap (λ (bs : List ℕ). bs ++ text_from calls None xs) (behind_page calls o break refl ∙ sym (behind_page calls None break refl))
 
-seam_text : (calls : List OuterCall) (fr es xs : List Item) → ((fr ≡ []) × (es ≡ [])) ⊎ (es ≡ break ∷ [])
+pub seam_text : (calls : List OuterCall) (fr es xs : List Item) → ((fr ≡ []) × (es ≡ [])) ⊎ (es ≡ break ∷ [])
     → length (text_from calls None (fr ++ (es ++ xs))) ≡ length (text_from calls None fr) + length (text_from calls None (es ++ xs))
 seam_text calls fr es xs (inl e) =
     let P : List Item → Type 0 = λ zs. length (text_from calls None (zs ++ (es ++ xs))) ≡ length (text_from calls None zs) + length (text_from calls None (es ++ xs)) in
@@ -86,7 +86,7 @@ seam_text calls fr es xs (inr e) =
     (text_size calls None fr (break ∷ xs)
     ∙ ap (λ (bs : List ℕ). length (text_from calls None fr) + length bs) (own_first calls (last_of None fr) xs))
 
-seam_last : (fr es : List Item) → ((fr ≡ []) × (es ≡ [])) ⊎ (es ≡ break ∷ []) → last_of None (fr ++ es) ≡ None
+pub seam_last : (fr es : List Item) → ((fr ≡ []) × (es ≡ [])) ⊎ (es ≡ break ∷ []) → last_of None (fr ++ es) ≡ None
 seam_last fr es (inl e) = ap₂ (λ (xs ys : List Item). last_of None (xs ++ ys)) e.0 e.1
 seam_last fr es (inr e) = ap (λ (ys : List Item). last_of None (fr ++ ys)) e ∙ last_append None fr (break ∷ [])
 
@@ -94,11 +94,11 @@ some_lines : (before : Lines) (l : List Item) (rest : Lines) → (m : List Item)
 some_lines [] l rest = (l, rest, refl)
 some_lines (b ∷ before) l rest = (b, before ++ l ∷ rest, refl)
 
-abbrev AreFirst : List LinedBlock → Type 0
+abbrev pub AreFirst : List LinedBlock → Type 0
 AreFirst [] = Unit {0}
 AreFirst (b ∷ bs) = (1 ≤ length b.first) × AreFirst bs
 
-next_seam : (b : LinedBlock) (bs : List LinedBlock) (behind : Lines) (fr : List Item) → Round b (all_lines bs behind) → Seam fr (ending (own_items b)) bs
+pub next_seam : (b : LinedBlock) (bs : List LinedBlock) (behind : Lines) (fr : List Item) → Round b (all_lines bs behind) → Seam fr (ending (own_items b)) bs
 next_seam b [] behind fr r = tt
 next_seam b (c ∷ bs) behind fr r =
     let s = some_lines c.before (c.marks ++ c.first) (c.more ++ all_lines bs behind) in inr (r.ends s.0 s.1 s.2)
@@ -149,7 +149,7 @@ first_after : (last : TextBlock) (open_tables : List Bool) (bs : List LinedBlock
 first_after last open_tables [] behind h = tt
 first_after last open_tables (b ∷ bs) behind h = (h.1.some, first_after b.block (open_after open_tables (written_rows (length open_tables) b.before)) bs behind h.2)
 
-all_first : (bs : List LinedBlock) (behind : Lines) → AreCallingLined bs behind → AreFirst bs
+pub all_first : (bs : List LinedBlock) (behind : Lines) → AreCallingLined bs behind → AreFirst bs
 all_first [] behind h = absurd h
 all_first (b ∷ bs) behind h = (h.0.some, first_after b.block (open_after [] (written_rows 0 b.before)) bs behind h.1)
 

@@ -1,318 +1,359 @@
--- Any number of paragraphs and headings of a page's tree, with calls in them or without, are on lines of the expanded page, one behind the other.
-use Rattle.std.proofs.Common.{arith, ◌≡◌, ◌<◌, ◌≤◌, ◌⊎◌, inl, inr, ℕ, ◌+◌, Bool, false, None, List, [], ◌∷◌, ◌++◌, length, map, refl, sym, ap, ◌∙◌, subst}
+-- Any number of paragraphs and headings of a page's tree, with calls in them or without, are on lines of the expanded page, one behind the other, and may be
+-- edited at their paths.
+use Rattle.std.proofs.Common.{arith, ◌≡◌, ◌≤◌, inl, inr, ℕ, ◌+◌, Bool, false, None, Option, List, [], ◌∷◌, ◌++◌, length, map, refl, sym, ap, ◌∙◌, subst, append_assoc}
+use Rattle.std.specs.List.{AllByRecursion}
 use Rattle.std.specs.Str.{IsUtf8}
 use Rattle.wt_span.specs.Items.{Item}
-use Rattle.wt_span.specs.Origins.{OuterCall}
-use Rattle.wt_tree.specs.Source.{flat}
-use Rattle.wt_tree.specs.Tree.{Tree, Trees, label}
-use Rattle.wt_annotated.specs.Seams.{text_from}
+use Rattle.wt_span.specs.Origins.{OuterCall, Span}
+use Rattle.wt_span.specs.Runs.{AreRuns}
+use Rattle.wt_span.proofs.RunLaws.{runs_are}
+use Rattle.wt_tree.specs.Tree.{Tree, Trees}
+use Rattle.wt_annotated.specs.Seams.{last_of, text_from}
+use Rattle.wt_annotated.proofs.Seams.{last_append}
 use Rattle.wt_checks.specs.Kept.{children}
 use Rattle.wt_expand.specs.PageCalls.{expanded_page}
 use Rattle.wt_expand.specs.Work.{Pages}
-use Rattle.wt_lines.specs.declared.kind.LineKind.TheVariants as line
-use Rattle.wt_lines.specs.Lines.{content, full_lines}
+use Rattle.wt_lines.specs.Lines.{content, full_lines, goes_on}
+use Rattle.wt_page.specs.Lines.{ending}
 use Rattle.wt_tables.specs.Parts.{joined}
-use Rattle.wt_page.specs.Lines.{kind_at}
-use Rattle.wt_page.specs.Rows.{Row, marks_len, rows_from}
-use Rattle.wt_part_laws.specs.Slots.{AllTrue}
 use Rattle.wt_commands.specs.Answers.{refusal_of_page}
-use Rattle.wt_text_edit_laws.specs.ParagraphBetween.{written_rows, tables_behind, EndApart, BeginApart}
-use Rattle.wt_text_edit_laws.specs.TextBlocks.{TextBlock, a_paragraph, a_heading, FirstApart}
-use Rattle.wt_called_edit_laws.specs.AllTold.{starts_in, text_on_a_sign, IsOneOf}
-use Rattle.wt_called_edit_laws.specs.AnyBlocks.{open_after, EndsFor, NextApart}
-use Rattle.wt_called_edit_laws.specs.CallingTogether.{IsOfKind, AreOnTold, AreOnLines}
-use Rattle.wt_called_edit_laws.specs.CallingTold.{as_block, IsExceptedByLines}
+use Rattle.wt_text_edit_laws.specs.TextBlocks.{TextBlock, a_paragraph, a_heading, source_of}
+use Rattle.wt_called_edit_laws.specs.AllTold.{starts_in, IsOneOf}
+use Rattle.wt_called_edit_laws.specs.AnyBlocks.{open_after}
+use Rattle.wt_called_edit_laws.specs.CallingBlocks.{AreContentsInFolder}
+use Rattle.wt_called_edit_laws.specs.CallingTogether.{IsEditableAt, EachEditable, TakeThere}
+use Rattle.wt_called_edit_laws.specs.CallingTold.{as_block}
+use Rattle.wt_called_edit_laws.specs.Covered.{HasFreeByte, HaveFreeBytes}
+use Rattle.wt_called_edit_laws.specs.EditableBlocks.{AreEditableContents}
+use Rattle.wt_called_edit_laws.specs.EditableNodes.{IsEditable}
 use Rattle.wt_called_edit_laws.specs.Groups.{called_tree}
-use Rattle.wt_called_edit_laws.specs.LinedCalling.{IsCallingAt, AreCallingAfter, AreCallingLined, IsLinedCalling}
-use Rattle.wt_called_edit_laws.specs.LinedHeadings.{IsLinedHeading}
-use Rattle.wt_called_edit_laws.specs.PlacedBlocks.{AreLinesAt}
-use Rattle.wt_called_edit_laws.specs.PlacedLines.{LinedBlock, all_lines, LinesApart}
-use Rattle.wt_called_edit_laws.specs.RowBlocks.{IsTextBlock, IsReachedAt, StandsIn, AreOfText, IsOfLines, of_lines, of_line, behind_a_sign, StandsOnLines}
-use Rattle.wt_called_edit_laws.specs.ToldLines.{Told, a_paragraph_of, a_heading_on, lined, IsToldAt, AreToldAfter, AreTold}
-use Rattle.wt_called_edit_laws.specs.ToldTogether.{AreSome, told_starts, IsAmongNumbers}
+use Rattle.wt_called_edit_laws.specs.LinedAmong.{spots_on, AreBeside}
+use Rattle.wt_called_edit_laws.specs.LinedCalling.{AreCallingHere, AreApartFrom, IsLinedCalling}
+use Rattle.wt_called_edit_laws.specs.PlacedLines.{LinedBlock, all_lines}
+use Rattle.wt_called_edit_laws.specs.ToldLines.{Told, a_paragraph_of, a_heading_on, lined, AreToldAfter, rows_before}
+use Rattle.wt_called_edit_laws.specs.ToldTogether.{AreSome, own_lines, start_of, told_starts, IsAmongNumbers}
+use Rattle.wt_called_edit_laws.proofs.Among.OwnItems.{from_page}
+use Rattle.wt_called_edit_laws.proofs.Among.OwnSeams.{own_last, text_size}
+use Rattle.wt_called_edit_laws.proofs.Cells.PlacedLines.{own_items, Round, round}
 use Rattle.wt_called_edit_laws.proofs.AllTold.BlockBytes.{block_byte}
-use Rattle.wt_called_edit_laws.proofs.AllTold.CallingBytes.{block_starts, TakenAt, taken_at, calling_bytes}
-use Rattle.wt_called_edit_laws.proofs.AllTold.Chosen.{less_or}
-use Rattle.wt_called_edit_laws.proofs.AllTold.ChosenLines.{byte_at, byte_of, among_mapped}
-use Rattle.wt_called_edit_laws.proofs.AllTold.Complete.{block_in, some_past, tables_same, text_lines_at, past_unled, first_unled}
+use Rattle.wt_called_edit_laws.proofs.AllTold.CallingBytes.{Seam, seam_text, next_seam, AreFirst, TakenAt, taken_at, calling_bytes}
+use Rattle.wt_called_edit_laws.proofs.AllTold.ChosenLines.{byte_at, byte_of, among_mapped, last_suffix, lines_of_own, rest_is}
+use Rattle.wt_called_edit_laws.proofs.AllTold.Complete.{block_in}
 use Rattle.wt_called_edit_laws.proofs.AllTold.Found.{size}
-use Rattle.wt_called_edit_laws.proofs.AllTold.HeadSigns.{head_begins}
-use Rattle.wt_called_edit_laws.proofs.AllTold.LineBlocks.{block_on_lines}
-use Rattle.wt_called_edit_laws.proofs.AllTold.LineKinds.{Lines, led_by, past_marks, led_whole, led_marks, kind_led}
+use Rattle.wt_called_edit_laws.proofs.AllTold.KnownLines.{IsKnownHere, KnownTold, KnownNode, known_node}
+use Rattle.wt_called_edit_laws.proofs.AllTold.LineKinds.{Lines}
+use Rattle.wt_called_edit_laws.proofs.AllTold.NodeLines.{IsOfKind, cut_among, among_decided, IsIn, meets_among, NodeLines, line_count}
+use Rattle.wt_called_edit_laws.proofs.AllTold.OneNode.{front_same, page_ones, page_joined}
+use Rattle.wt_called_edit_laws.proofs.AllTold.OnTold.{AreOnTold, lined_on, starts_on}
 use Rattle.wt_called_edit_laws.proofs.AllTold.OnLines.{IsThere, line_front, line_more, line_size, line_whole, node_byte}
-use Rattle.wt_called_edit_laws.proofs.AllTold.OneNode.{page_ones, page_joined}
-use Rattle.wt_called_edit_laws.proofs.AllTold.PlaceStarts.{start_from}
+use Rattle.wt_called_edit_laws.proofs.AllTold.OwnBytes.{any_content, any_editable}
+use Rattle.wt_called_edit_laws.proofs.AllTold.OwnLines.{cancel_left}
 use Rattle.wt_called_edit_laws.proofs.AllTold.RowBlocks.{body_none, below}
-use Rattle.wt_called_edit_laws.proofs.AllTold.Scans.{Decided, Asked, Answered, text_told, heading_told, behind_lines, behind_joined}
-use Rattle.wt_called_edit_laws.proofs.AllTold.Scanned.{Scan, scan}
+use Rattle.wt_called_edit_laws.proofs.AllTold.Scans.{behind_lines, behind_joined, ToldFrom}
+use Rattle.wt_called_edit_laws.proofs.AllTold.Scanned.{Scan, scan, AllMeet, without_before}
 use Rattle.wt_called_edit_laws.proofs.AllTold.Together.{are_told}
 
--- ---- blocks on lines that are told stand there
+-- ---- the lines that are found are those of a block
 
-ends_so : (j k : TextBlock) (rs : List Row) → IsOfKind j k → EndsFor j rs → EndsFor k rs
-ends_so a_paragraph a_paragraph rs e h = h
-ends_so a_paragraph (a_heading s) rs e h = absurd e
-ends_so (a_heading s) a_paragraph rs e h = absurd e
-ends_so (a_heading s) (a_heading z) rs e h = tt
+abbrev tolds : {pages : Pages} {page : List ℕ} → List (KnownTold pages page) → List Told
+tolds [] = []
+tolds (x ∷ xs) = x.told ∷ tolds xs
 
-first_so : (j k : TextBlock) (rs : List Row) → IsOfKind j k → FirstApart j rs → FirstApart k rs
-first_so a_paragraph a_paragraph rs e h = h
-first_so a_paragraph (a_heading s) rs e h = absurd e
-first_so (a_heading s) a_paragraph rs e h = absurd e
-first_so (a_heading s) (a_heading z) [] e h = tt
-first_so (a_heading s) (a_heading z) (r ∷ rs) e h = h
+-- as long fronts of the same items are the same
+record AreSameItems (here ms own fs ns os : List Item) : Type 0 where
+  before : here ≡ fs
+  marks : ms ≡ ns
+  lines : own ≡ os
 
-next_so : (i k : TextBlock) (j l : TextBlock) (rs : List Row) → IsOfKind i k → IsOfKind j l → NextApart i j rs → NextApart k l rs
-next_so a_paragraph a_paragraph j l rs e f h = first_so j l rs f h
-next_so a_paragraph (a_heading s) j l rs e f h = absurd e
-next_so (a_heading s) a_paragraph j l rs e f h = absurd e
-next_so (a_heading s) (a_heading z) j l rs e f h = tt
+same_items : (all here ms own rest fs ns os more : List Item) → all ≡ (here ++ ms) ++ (own ++ rest) → all ≡ (fs ++ ns) ++ (os ++ more) → length here ≡ length fs
+    → length ms ≡ length ns → length own ≡ length os → AreSameItems here ms own fs ns os
+same_items all here ms own rest fs ns os more e f m n l =
+    let both : here ++ (ms ++ (own ++ rest)) ≡ fs ++ (ns ++ (os ++ more)) =
+    sym (append_assoc here ms (own ++ rest)) ∙ sym e ∙ f ∙ append_assoc fs ns (os ++ more) in
+    let one : here ≡ fs = front_same here (ms ++ (own ++ rest)) fs (ns ++ (os ++ more)) both m in
+    let later : ms ++ (own ++ rest) ≡ ns ++ (os ++ more) =
+    cancel_left fs (ms ++ (own ++ rest)) (ns ++ (os ++ more)) (ap (λ (zs : List Item). zs ++ (ms ++ (own ++ rest))) (sym one) ∙ both) in
+    let two : ms ≡ ns = front_same ms (own ++ rest) ns (os ++ more) later n in
+    let last : own ++ rest ≡ os ++ more =
+    cancel_left ns (own ++ rest) (os ++ more) (ap (λ (zs : List Item). zs ++ (own ++ rest)) (sym two) ∙ later) in
+    record { before = one; marks = two; lines = front_same own rest os more last l }
 
-behind_so : (j k : TextBlock) (n : ℕ) (ls : Lines) → IsOfKind j k → LinesApart j n ls → LinesApart k n ls
-behind_so a_paragraph a_paragraph n ls e h = h
-behind_so a_paragraph (a_heading s) n ls e h = absurd e
-behind_so (a_heading s) a_paragraph n ls e h = absurd e
-behind_so (a_heading s) (a_heading z) n ls e h = tt
+of_both : (i j k : TextBlock) → IsOfKind i j → IsOfKind j k → IsOfKind i k
+of_both a_paragraph a_paragraph k e f = f
+of_both a_paragraph (a_heading s) k e f = absurd e
+of_both (a_heading s) a_paragraph k e f = absurd e
+of_both (a_heading s) (a_heading z) a_paragraph e f = absurd f
+of_both (a_heading s) (a_heading z) (a_heading y) e f = tt
 
-abbrev on_told : Told → TextBlock → List ℕ → LinedBlock
-on_told t k q = as_block (lined t).before (lined t).marks (lined t).first (lined t).more k q
+-- a block behind these items, of which all is known that is asked
+record FoundHere (pages : Pages) (page : List ℕ) (front : List Item) (t : Told) : Type 0 where
+  block : TextBlock
+  text : List ℕ
+  kind : IsOfKind (lined t).block block
+  known : IsKnownHere pages page front (lined t).marks (own_items (lined t)) block text
 
-calling_at : (open_tables : List Bool) (t : Told) (k : TextBlock) (q : List ℕ) → IsOfKind (lined t).block k → IsToldAt open_tables t → IsCallingAt open_tables (on_told t k q)
-calling_at open_tables (a_paragraph_of b m f r) a_paragraph q e h =
-    record { are_marks = h.are_marks; some = h.some; in_cells = h.in_cells; apart = h.apart; own = h.own.0 }
-calling_at open_tables (a_paragraph_of b m f r) (a_heading s) q e h = absurd e
-calling_at open_tables (a_heading_on b m l) a_paragraph q e h = absurd e
-calling_at open_tables (a_heading_on b m l) (a_heading s) q e h =
-    record { are_marks = h.are_marks; some = h.some; in_cells = h.in_cells; apart = tt; own = tt }
+found_among : (pages : Pages) (page : List ℕ) (ks : List (KnownTold pages page)) (front : List Item) (t : Told) (tail : List Item)
+    → (expanded_page pages page).items ≡ (front ++ (lined t).marks) ++ (own_items (lined t) ++ tail) → cut_among (tolds ks) front t → FoundHere pages page front t
+found_among pages page [] front t tail e h = absurd h
+found_among pages page (x ∷ xs) front t tail e (inr h) = found_among pages page xs front t tail e h
+found_among pages page (x ∷ xs) front t tail e (inl c) =
+    let b : LinedBlock = lined t in
+    let o : LinedBlock = lined x.told in
+    let whole : (expanded_page pages page).items ≡ (joined o.before ++ o.marks) ++ (own_items o ++ joined x.rest) = line_whole pages page o x.rest x.are in
+    let s : AreSameItems front b.marks (own_items b) (joined o.before) o.marks (own_items o) =
+    same_items (expanded_page pages page).items front b.marks (own_items b) tail (joined o.before) o.marks (own_items o) (joined x.rest) e whole c.before c.marks c.own in
+    record {
+      block = x.block;
+      text = x.text;
+      kind = of_both b.block o.block x.block c.kind x.kind;
+      known = subst (λ (zs : List Item). IsKnownHere pages page zs b.marks (own_items b) x.block x.text) (sym s.before)
+          (subst (λ (zs : List Item). IsKnownHere pages page (joined o.before) zs (own_items b) x.block x.text) (sym s.marks)
+          (subst (λ (zs : List Item). IsKnownHere pages page (joined o.before) o.marks zs x.block x.text) (sym s.lines) x.known));
+    }
 
-lined_after : (i k : TextBlock) (open_tables : List Bool) (ts : List Told) (bs : List LinedBlock) (behind : Lines) → IsOfKind i k → AreOnTold ts bs
-    → AreToldAfter i open_tables ts behind → AreCallingAfter k open_tables bs behind
-lined_after i k open_tables [] [] behind e o h = behind_so i k (length open_tables) behind e h
-lined_after i k open_tables [] (b ∷ bs) behind e o h = absurd o
-lined_after i k open_tables (t ∷ ts) [] behind e o h = absurd o
-lined_after i k open_tables (t ∷ ts) (b ∷ bs) behind e o h =
-    let rows : List Row = written_rows (length open_tables) (lined t).before in
-    subst (λ (c : LinedBlock). NextApart k c.block (written_rows (length open_tables) c.before) × IsCallingAt open_tables c
-    × AreCallingAfter c.block (open_after open_tables (written_rows (length open_tables) c.before)) bs behind) (sym o.0.is) (
-      next_so i k (lined t).block b.block rows e o.0.kind h.0,
-      calling_at open_tables t b.block b.text o.0.kind h.1,
-      lined_after (lined t).block b.block (open_after open_tables rows) ts bs behind o.0.kind o.1 h.2,
-    )
+found_so : (pages : Pages) (page : List ℕ) (ks : List (KnownTold pages page)) (front : List Item) (t : Told) (tail : List Item)
+    → (expanded_page pages page).items ≡ (front ++ (lined t).marks) ++ (own_items (lined t) ++ tail) → cut_among (tolds ks) front (without_before t)
+    → FoundHere pages page front t
+found_so pages page ks front (a_paragraph_of b m f r) tail e h =
+    let c : FoundHere pages page front (a_paragraph_of [] m f r) = found_among pages page ks front (a_paragraph_of [] m f r) tail e h in
+    record { block = c.block; text = c.text; kind = c.kind; known = c.known }
+found_so pages page ks front (a_heading_on b m l) tail e h =
+    let c : FoundHere pages page front (a_heading_on [] m l) = found_among pages page ks front (a_heading_on [] m l) tail e h in
+    record { block = c.block; text = c.text; kind = c.kind; known = c.known }
 
-lined_on : (ts : List Told) (bs : List LinedBlock) (behind : Lines) → AreOnTold ts bs → AreTold ts behind → AreCallingLined bs behind
-lined_on [] bs behind o h = absurd h
-lined_on (t ∷ ts) [] behind o h = absurd o
-lined_on (t ∷ ts) (b ∷ bs) behind o h =
-    let rows : List Row = written_rows 0 (lined t).before in
-    subst (λ (c : LinedBlock). IsCallingAt [] c × AreCallingAfter c.block (open_after [] (written_rows 0 c.before)) bs behind) (sym o.0.is) (
-      calling_at [] t b.block b.text o.0.kind h.0,
-      lined_after (lined t).block b.block (open_after [] rows) ts bs behind o.0.kind o.1 h.1,
-    )
+-- ---- all that are found
 
-starts_on : (at : ℕ) (ts : List Told) (bs : List LinedBlock) → AreOnTold ts bs → told_starts at ts ≡ block_starts at bs
-starts_on at [] [] o = refl
-starts_on at [] (b ∷ bs) o = absurd o
-starts_on at (t ∷ ts) [] o = absurd o
-starts_on at (t ∷ ts) (b ∷ bs) o =
-    let c : LinedBlock = on_told t b.block b.text in
-    let first : ℕ = at + size (joined c.before) + size c.marks in
-    ap (λ (ns : List ℕ). first ∷ ns) (starts_on (at + size (joined c.before) + size (joined ((c.marks ++ c.first) ∷ c.more))) ts bs o.1)
-    ∙ ap (λ (x : LinedBlock). (at + size (joined x.before) + size x.marks) ∷ block_starts (at + size (joined x.before) + size (joined ((x.marks ++ x.first) ∷ x.more))) bs)
-    (sym o.0.is)
+-- blocks on these lines, where what is left of the line before is this, and so many bytes are before
+record AreJoined (pages : Pages) (page : List ℕ) (at : ℕ) (es : List Item) (ts : List Told) : Type 0 where
+  bs : List LinedBlock
+  on : AreOnTold ts bs
+  here : AreCallingHere (expanded_page pages page).outer bs
+  editable : AllByRecursion (λ (b : LinedBlock). IsEditable pages b.block b.text) bs
+  apart : AreApartFrom (expanded_page pages page).outer (expanded_page pages page).text_calls at es bs
+  free : HaveFreeBytes at (spots_on (expanded_page pages page).outer es bs) (called_tree pages page)
 
--- ---- those that begin at one of these bytes
+joined_from : (pages : Pages) (page : List ℕ) (ks : List (KnownTold pages page)) (front fr es : List Item) (at : ℕ) (ts : List Told) (behind : Lines) (xs : List Item)
+    → front ≡ fr ++ es → at ≡ length (text_from (expanded_page pages page).outer None fr) → Seam fr es (map lined ts) → AllMeet (cut_among (tolds ks)) front ts
+    → AreFirst (map lined ts) → AreRuns goes_on (all_lines (map lined ts) behind) xs
+    → (expanded_page pages page).items ≡ front ++ joined (all_lines (map lined ts) behind) → AreJoined pages page at es ts
+joined_from pages page ks front fr es at [] behind xs f z s h some runs e =
+    record { bs = []; on = tt; here = tt; editable = tt; apart = tt; free = tt }
+joined_from pages page ks front fr es at (t ∷ ts) behind xs f z s h some runs e =
+    let calls : List OuterCall = (expanded_page pages page).outer in
+    let spans : List Span = (expanded_page pages page).text_calls in
+    let c : LinedBlock = lined t in
+    let j : List Item = joined c.before in
+    let own : List Item = own_items c in
+    let cs : List Item = content own in
+    let tail : Lines = all_lines (map lined ts) behind in
+    let here : List Item = behind_lines front c.before in
+    let here_is : here ≡ front ++ j = behind_joined front c.before in
+    let parts = rest_is (expanded_page pages page).items front t tail e in
+    let w : FoundHere pages page here t = found_so pages page ks here t (joined tail) parts.0 h.0 in
+    let r : Round c tail = round c tail xs some.0 runs w.known.breaks in
+    let to_here : here ≡ fr ++ (es ++ j) = here_is ∙ ap (λ (zs : List Item). zs ++ j) f ∙ append_assoc fr es j in
+    let to_block : here ++ c.marks ≡ fr ++ (es ++ (j ++ c.marks)) =
+    ap (λ (zs : List Item). zs ++ c.marks) to_here ∙ append_assoc fr (es ++ j) c.marks ∙ ap (λ (zs : List Item). fr ++ zs) (append_assoc es j c.marks) in
+    let spot : List ℕ = text_from calls None ((es ++ j) ++ c.marks) in
+    let same_spot : text_from calls None (es ++ (j ++ c.marks)) ≡ spot = ap (text_from calls None) (sym (append_assoc es j c.marks)) in
+    let line_at : length (text_from calls None here) ≡ at + length (text_from calls None (es ++ j)) =
+    omega (arith, ap (λ (zs : List Item). length (text_from calls None zs)) to_here, seam_text calls fr es j s, z) in
+    let block_at : length (text_from calls None (here ++ c.marks)) ≡ at + length spot =
+    omega (arith, ap (λ (zs : List Item). length (text_from calls None zs)) to_block, seam_text calls fr es (j ++ c.marks) s, z, ap length same_spot) in
+    let size_is : ℕ = length (source_of w.block w.text) in
+    let end : ℕ = (at + length spot) + size_is in
+    let last : last_of None (here ++ c.marks) ≡ None =
+    last_append None here c.marks ∙ ap (λ (o : Option ℕ). last_of o c.marks) w.known.ends ∙ own_last c.marks (from_page c.marks w.known.own_marks) in
+    let next : List Item = (here ++ c.marks) ++ cs in
+    let past : end ≡ length (text_from calls None next) =
+    omega (arith, text_size calls None (here ++ c.marks) cs, ap (λ (o : Option ℕ). length (text_from calls o cs)) last, ap length w.known.source, block_at) in
+    let front_is : behind_lines here (own_lines t) ≡ next ++ ending own =
+    behind_joined here (own_lines t) ∙ ap (λ (zs : List Item). here ++ zs) (lines_of_own t) ∙ sym (append_assoc here (c.marks ++ cs) (ending own))
+    ∙ ap (λ (zs : List Item). zs ++ ending own) (sym (append_assoc here c.marks cs)) in
+    let rest : AreJoined pages page end (ending own) ts =
+    joined_from pages page ks (behind_lines here (own_lines t)) next (ending own) end ts behind (joined tail) front_is past (next_seam c (map lined ts) behind next r) h.1
+    some.1 r.tail_runs parts.1 in
+    record {
+      bs = as_block c.before c.marks c.first c.more w.block w.text ∷ rest.bs;
+      on = (record { is = refl; kind = w.kind }, rest.on);
+      here = (
+        record {
+          before = last_suffix front j (ap (last_of None) (sym here_is) ∙ w.known.ends);
+          marks = w.known.own_marks;
+          breaks = w.known.breaks;
+          source = w.known.source;
+        },
+        rest.here,
+      );
+      editable = (w.known.content_is, rest.editable);
+      apart = (
+        subst (λ (n : ℕ). AreBeside n end spans) line_at
+            (subst (λ (n : ℕ). AreBeside (length (text_from calls None here)) (n + size_is) spans) block_at w.known.apart),
+        rest.apart,
+      );
+      free = (subst (λ (n : ℕ). HasFreeByte (called_tree pages page) n (n + size_is)) block_at w.known.free, rest.free);
+    }
 
-abbrev byte_in : Pages → List ℕ → List ℕ → Asked
-byte_in pages page ns front t = IsAmongNumbers (length (text_from (expanded_page pages page).outer None (front ++ (lined t).marks))) ns
+-- ---- their contents
 
-number_decided : (n : ℕ) (ns : List ℕ) → Decided (IsAmongNumbers n ns)
-number_decided n [] = inr (λ h. h)
-number_decided n (m ∷ ms) = by (less_or n m) (less_or m n) (number_decided n ms)
-  where
-    by : (n ≤ m) ⊎ (m < n) → (m ≤ n) ⊎ (n < m) → Decided (IsAmongNumbers n ms) → Decided (IsAmongNumbers n (m ∷ ms))
-    by (inl a) (inl b) d = inl (inl (omega (arith, a, b)))
-    by a b (inl d) = inl (inr d)
-    by (inr a) b (inr f) = inr (λ h. elim h [
-      | inl e ↦ omega (arith, a, e)
-      | inr e ↦ f e
-    ])
-    by (inl a) (inr b) (inr f) = inr (λ h. elim h [
-      | inl e ↦ omega (arith, b, e)
-      | inr e ↦ f e
-    ])
+all_contents : (pages : Pages) (calls : List OuterCall) (es : List Item) (bs : List LinedBlock) → AllByRecursion (λ (b : LinedBlock). IsEditable pages b.block b.text) bs
+    → AreContentsInFolder pages (spots_on calls es bs) × AreEditableContents pages (spots_on calls es bs)
+all_contents pages calls es [] h = (tt, tt)
+all_contents pages calls es (b ∷ bs) h =
+    let r = all_contents pages calls (ending (joined (b.first ∷ b.more))) bs h.1 in
+    ((any_content pages b.block b.text h.0, r.0), (any_editable pages b.block b.text h.0, r.1))
 
-byte_decided : (pages : Pages) (page : List ℕ) (ns : List ℕ) → Answered (byte_in pages page ns)
-byte_decided pages page ns front t = number_decided (length (text_from (expanded_page pages page).outer None (front ++ (lined t).marks))) ns
+lines_same : (ts : List Told) (bs : List LinedBlock) (behind : Lines) → AreOnTold ts bs → all_lines (map lined ts) behind ≡ all_lines bs behind
+lines_same [] [] behind o = refl
+lines_same [] (b ∷ bs) behind o = absurd o
+lines_same (t ∷ ts) [] behind o = absurd o
+lines_same (t ∷ ts) (b ∷ bs) behind o =
+    ap (λ (ls : Lines). (lined t).before ++ ((((lined t).marks ++ (lined t).first) ∷ (lined t).more) ++ ls)) (lines_same ts bs behind o.1)
+    ∙ ap (λ (c : LinedBlock). c.before ++ (((c.marks ++ c.first) ∷ c.more) ++ all_lines bs behind)) (sym o.0.is)
 
-abbrev ScanFor : Pages → List ℕ → List ℕ → Type 0
-ScanFor pages page ns = Scan (byte_in pages page ns) [] [] false (full_lines (expanded_page pages page).items)
+-- ---- each line has a first item
 
--- ---- each of the nodes is among them
+told_after : (last : TextBlock) (open_tables : List Bool) (ts : List Told) (behind : Lines) → AreToldAfter last open_tables ts behind → AreFirst (map lined ts)
+told_after last open_tables [] behind h = tt
+told_after last open_tables (t ∷ ts) behind h = (h.1.some, told_after (lined t).block (open_after open_tables (rows_before open_tables t)) ts behind h.2)
+
+told_first : (ts : List Told) (behind : Lines) → ToldFrom [] ts behind → AreFirst (map lined ts)
+told_first [] behind h = tt
+told_first (t ∷ ts) behind h = (h.0.some, told_after (lined t).block (open_after [] (rows_before [] t)) ts behind h.1)
+
+-- ---- each node is there
 
 abbrev page_byte : Pages → List ℕ → ℕ → ℕ
 page_byte pages page n = byte_at (expanded_page pages page).outer (expanded_page pages page).items n
 
-abbrev Answer : (pages : Pages) (page : List ℕ) (ns : List ℕ) (i : ℕ) (is : List ℕ) (t : Tree) → ScanFor pages page ns → Type 0
-Answer pages page ns i is t sc =
-    IsAmongNumbers (starts_in 0 i is (children (called_tree pages page))) (map (page_byte pages page) (told_starts 0 sc.ts)) ⊎ IsExceptedByLines pages page t
+abbrev ScanFor : (pages : Pages) (page : List ℕ) → List Told → Type 0
+ScanFor pages page os = Scan (cut_among os) [] [] false (full_lines (expanded_page pages page).items)
 
--- where its lines are found
-found_so : (pages : Pages) (page : List ℕ) (ns : List ℕ) (i : ℕ) (is : List ℕ) (t : Tree) (sc : ScanFor pages page ns) → IsThere pages page i is t → (s : StandsIn pages page t)
-    (b : LinedBlock) (behind : Lines) → full_lines (expanded_page pages page).items ≡ all_lines (b ∷ []) behind → size s.before ≡ size (joined b.before) + size b.marks
-    → IsAmongNumbers (0 + size (joined b.before) + size b.marks) (told_starts 0 sc.ts)
-    → IsAmongNumbers (starts_in 0 i is (children (called_tree pages page))) (map (page_byte pages page) (told_starts 0 sc.ts))
-found_so pages page ns i is t sc n s b behind are at h =
+-- a node at this path whose lines are known, and found where they are meant
+record FoundNode (pages : Pages) (page : List ℕ) (p : List ℕ) : Type 0 where
+  line : KnownTold pages page
+  first : ℕ
+  others : List ℕ
+  path : p ≡ first ∷ others
+  node : Tree
+  there : IsThere pages page first others node
+  found : (os : List Told) (sc : ScanFor pages page os) → IsIn line.told os
+      → IsAmongNumbers (starts_in 0 first others (children (called_tree pages page))) (map (page_byte pages page) (told_starts 0 sc.ts))
+
+found_node : (pages : Pages) (page p : List ℕ) (t : Tree) → IsUtf8 page → refusal_of_page pages page ≡ None → IsEditableAt pages page p t → FoundNode pages page p
+found_node pages page [] t u r h = absurd (body_none pages page t u r h.reached h.block)
+found_node pages page (i ∷ is) t u r h =
+    let k : KnownNode pages page t = known_node pages page i is t u r h in
+    let n : NodeLines pages page t = k.lines in
+    let b : LinedBlock = lined n.told in
     let calls : List OuterCall = (expanded_page pages page).outer in
     let items : List Item = (expanded_page pages page).items in
-    let count : 0 + size (joined b.before) + size b.marks ≡ size (line_front b) = omega (arith, line_size b) in
-    let byte : page_byte pages page (0 + size (joined b.before) + size b.marks) ≡ starts_in 0 i is (children (called_tree pages page)) =
-    ap (page_byte pages page) count ∙ byte_of calls (line_front b) (line_more b behind) items (line_whole pages page b behind are) (page_ones pages page n.utf8 n.unrefused)
-    ∙ sym (node_byte pages page i is t n s b behind are at) in
-    subst (λ (m : ℕ). IsAmongNumbers m (map (page_byte pages page) (told_starts 0 sc.ts))) byte
-    (among_mapped (page_byte pages page) (0 + size (joined b.before) + size b.marks) (told_starts 0 sc.ts) h)
+    let w : IsThere pages page i is t = record {
+      utf8 = u;
+      unrefused = r;
+      there = below i is (called_tree pages page) t h.reached;
+      block = h.block;
+      byte = block_byte pages page (i ∷ is) t u r h.reached h.block;
+    } in
+    let at : size n.stands.before ≡ size (joined b.before) + size b.marks = line_count pages page t n ∙ line_size b in
+    let count : start_of 0 n.told ≡ size (line_front b) = omega (arith, line_size b) in
+    let byte : page_byte pages page (start_of 0 n.told) ≡ starts_in 0 i is (children (called_tree pages page)) =
+    ap (page_byte pages page) count ∙ byte_of calls (line_front b) (line_more b n.rest) items (line_whole pages page b n.rest n.are) (page_ones pages page u r)
+    ∙ sym (node_byte pages page i is t w n.stands b n.rest n.are at) in
+    record {
+      line = k.line;
+      first = i;
+      others = is;
+      path = refl;
+      node = t;
+      there = w;
+      found = λ os sc m.
+          subst (λ (x : ℕ). IsAmongNumbers x (map (page_byte pages page) (told_starts 0 sc.ts))) byte
+          (among_mapped (page_byte pages page) (start_of 0 n.told) (told_starts 0 sc.ts)
+          (n.found os sc (meets_among n.told os (subst (λ (o : Told). IsIn o os) k.is m))));
+    }
 
--- and so it is asked
-meets_so : (pages : Pages) (page : List ℕ) (ns : List ℕ) (i : ℕ) (is : List ℕ) (t : Tree) → IsThere pages page i is t → (s : StandsIn pages page t)
-    (b : LinedBlock) (behind : Lines) → full_lines (expanded_page pages page).items ≡ all_lines (b ∷ []) behind → size s.before ≡ size (joined b.before) + size b.marks
-    → IsAmongNumbers (starts_in 0 i is (children (called_tree pages page))) ns
-    → IsAmongNumbers (length (text_from (expanded_page pages page).outer None (behind_lines [] b.before ++ b.marks))) ns
-meets_so pages page ns i is t n s b behind are at h =
-    let calls : List OuterCall = (expanded_page pages page).outer in
-    subst (λ (m : ℕ). IsAmongNumbers m ns)
-    (node_byte pages page i is t n s b behind are at ∙ ap (λ (zs : List Item). length (text_from calls None (zs ++ b.marks))) (sym (behind_joined [] b.before))) h
+-- all of them
+abbrev FoundNodes : Pages → List ℕ → List (List ℕ) → Type 0
+FoundNodes pages page ps = AllByRecursion (FoundNode pages page) ps
 
-text_among : (pages : Pages) (page : List ℕ) (ns : List ℕ) (i : ℕ) (is : List ℕ) (t : Tree) (sc : ScanFor pages page ns) → IsThere pages page i is t → (s : StandsIn pages page t)
-    (before : Lines) (first : List Item) (others behind : Lines) → full_lines (expanded_page pages page).items ≡ before ++ ((first ∷ others) ++ behind)
-    → AllTrue (open_after [] (written_rows 0 before)) → EndApart (written_rows 0 before) → AreOfText (tables_behind 0 before) (first ∷ others)
-    → BeginApart (rows_from (tables_behind 0 before) behind) → size s.before ≡ size (joined before) + size (led_by first)
-    → IsAmongNumbers (starts_in 0 i is (children (called_tree pages page))) ns → Answer pages page ns i is t sc
-text_among pages page ns i is t sc n s before first others behind are cells apart texts stops at h =
-    by
-  where
-    m : ℕ
-    m = length (open_after [] (written_rows 0 before))
+found_nodes : (pages : Pages) (page : List ℕ) (ps : List (List ℕ)) → IsUtf8 page → refusal_of_page pages page ≡ None → EachEditable pages page ps
+    → FoundNodes pages page ps
+found_nodes pages page [] u r h = tt
+found_nodes pages page (p ∷ ps) u r h = (found_node pages page p h.0.0 u r h.0.1, found_nodes pages page ps u r h.1)
 
-    here : AreOfText m (first ∷ others)
-    here = subst (λ (j : ℕ). AreOfText j (first ∷ others)) (tables_same before) texts
+abbrev node_lines_of : (pages : Pages) (page : List ℕ) (ps : List (List ℕ)) → FoundNodes pages page ps → List (KnownTold pages page)
+node_lines_of pages page [] h = []
+node_lines_of pages page (p ∷ ps) h = h.0.line ∷ node_lines_of pages page ps h.1
 
-    by : Answer pages page ns i is t sc
-    by =
-        let o : Told = text_told before first others in
-        let b : LinedBlock = lined o in
-        let seen : 1 ≤ length (past_marks first) = some_past m first (λ w. let wrong : line.Blank ≡ line.Text = sym w ∙ here.0 in absurd (cc)) in
-        let own : AreLinesAt m (past_marks first ∷ others) = (kind_led m first seen ∙ here.0, text_lines_at m others here.1) in
-        let unled : marks_len (content (joined (past_marks first ∷ others))) ≡ 0 = first_unled (past_marks first) (joined others) seen (past_unled first) in
-        let told : IsToldAt [] o = record { are_marks = led_marks first; some = seen; in_cells = cells; apart = apart; own = (own, unled) } in
-        let all : full_lines (expanded_page pages page).items ≡ all_lines (b ∷ []) behind =
-        are ∙ ap (λ (l : List Item). before ++ ((l ∷ others) ++ behind)) (sym (led_whole first)) in
-        inl (found_so pages page ns i is t sc n s b behind all at
-        (sc.texts 0 before first others behind are told (subst (λ (j : ℕ). BeginApart (rows_from j behind)) (tables_same before) stops) (λ z. refl)
-        (meets_so pages page ns i is t n s b behind all at h)))
-
-heading_among : (pages : Pages) (page : List ℕ) (ns : List ℕ) (i : ℕ) (is : List ℕ) (t : Tree) (sc : ScanFor pages page ns) → IsThere pages page i is t → (s : StandsIn pages page t)
-    (before : Lines) (own : List Item) (behind : Lines) → full_lines (expanded_page pages page).items ≡ before ++ own ∷ behind → AllTrue (open_after [] (written_rows 0 before))
-    → kind_at (tables_behind 0 before) own ≡ line.Heading → size s.before ≡ size (joined before) + size (led_by own)
-    → IsAmongNumbers (starts_in 0 i is (children (called_tree pages page))) ns → Answer pages page ns i is t sc
-heading_among pages page ns i is t sc n s before own behind are cells kind_is at h =
-    by
-  where
-    m : ℕ
-    m = length (open_after [] (written_rows 0 before))
-
-    by : Answer pages page ns i is t sc
-    by =
-        let o : Told = heading_told before own in
-        let b : LinedBlock = lined o in
-        let here : kind_at m own ≡ line.Heading = subst (λ (j : ℕ). kind_at j own ≡ line.Heading) (tables_same before) kind_is in
-        let seen : 1 ≤ length (past_marks own) = some_past m own (λ v. let wrong : line.Blank ≡ line.Heading = sym v ∙ here in absurd (cc)) in
-        let head : IsLinedHeading m (past_marks own) = record {
-          is_heading = kind_led m own seen ∙ here;
-          first = head_begins pages page before own behind n.utf8 n.unrefused are m here seen;
-        } in
-        let told : IsToldAt [] o = record { are_marks = led_marks own; some = seen; in_cells = cells; apart = tt; own = head } in
-        let all : full_lines (expanded_page pages page).items ≡ all_lines (b ∷ []) behind = are ∙ ap (λ (l : List Item). before ++ l ∷ behind) (sym (led_whole own)) in
-        inl (found_so pages page ns i is t sc n s b behind all at (sc.heads 0 before own behind are told (meets_so pages page ns i is t n s b behind all at h)))
-
-by_lines : (pages : Pages) (page : List ℕ) (ns : List ℕ) (i : ℕ) (is : List ℕ) (t : Tree) (sc : ScanFor pages page ns) → IsThere pages page i is t → (s : StandsIn pages page t)
-    → IsOfLines (full_lines (expanded_page pages page).items) (size s.before) s.block → IsAmongNumbers (starts_in 0 i is (children (called_tree pages page))) ns
-    → Answer pages page ns i is t sc
-by_lines pages page ns i is t sc n s (of_lines before first others behind are cells apart texts stops at tree_is) h =
-    text_among pages page ns i is t sc n s before first others behind are cells apart texts stops at h
-by_lines pages page ns i is t sc n s (of_line before own behind are cells kind_is at tree_is) h =
-    heading_among pages page ns i is t sc n s before own behind are cells kind_is at h
-by_lines pages page ns i is t sc n s (behind_a_sign before first others behind are unended at tree_is) h =
-    inr (record { stands = s; by_lines = text_on_a_sign before first others behind are unended at })
-
--- ---- all of them
-
-among_paths : (us : Trees) (p : List ℕ) (ps : List (List ℕ)) → IsOneOf p ps → IsAmongNumbers (start_from 0 us p) (map (start_from 0 us) ps)
-among_paths us p [] h = absurd h
-among_paths us p (q ∷ qs) (inl e) = inl (ap (start_from 0 us) e)
-among_paths us p (q ∷ qs) (inr h) = inr (among_paths us p qs h)
-
-abbrev numbers_for : Pages → List ℕ → List (List ℕ) → List ℕ
-numbers_for pages page ps = map (start_from 0 (children (called_tree pages page))) ps
-
-there_so : (pages : Pages) (page : List ℕ) (ps : List (List ℕ)) (sc : ScanFor pages page (numbers_for pages page ps)) (bs : List LinedBlock) → AreOnTold sc.ts bs
-    → IsLinedCalling pages page bs sc.behind → (a : TakenAt pages page bs sc.behind) (p : List ℕ) (t : Tree) → IsOneOf p ps → IsReachedAt p (called_tree pages page) t
-    → IsTextBlock (label t).kind → IsOneOf p a.taken.paths ⊎ IsExceptedByLines pages page t
-there_so pages page ps sc bs o l a [] t h e b = absurd (body_none pages page t l.utf8 l.unrefused e b)
-there_so pages page ps sc bs o l a (i ∷ is) t h e b = by (by_lines pages page (numbers_for pages page ps) i is t sc n s.stands s.by_lines (among_paths us (i ∷ is) ps h))
+-- each path is one of those at which the blocks may be edited
+each_there : (pages : Pages) (page : List ℕ) (ps : List (List ℕ)) (h : FoundNodes pages page ps) (os : List Told) (sc : ScanFor pages page os) (bs : List LinedBlock)
+    → ((o : Told) → IsIn o (tolds (node_lines_of pages page ps h)) → IsIn o os) → AreOnTold sc.ts bs → IsLinedCalling pages page bs sc.behind
+    → (a : TakenAt pages page bs sc.behind) → AllByRecursion (λ (p : List ℕ). IsOneOf p a.taken.paths) ps
+each_there pages page [] h os sc bs w o l a = tt
+each_there pages page (p ∷ ps) h os sc bs w o l a = (
+  subst (λ (q : List ℕ). IsOneOf q a.taken.paths) (sym f.path)
+      (a.there f.first f.others (block_in f.first f.others us f.node f.there.there f.there.block f.there.byte)
+      (subst (IsAmongNumbers (starts_in 0 f.first f.others us))
+      (ap (map (page_byte pages page)) (starts_on 0 sc.ts bs o)
+      ∙ calling_bytes pages page bs sc.behind l (page_joined pages page (all_lines bs sc.behind) l.are) (page_ones pages page l.utf8 l.unrefused))
+      (f.found os sc (w f.line.told (inl refl))))),
+  each_there pages page ps h.1 os sc bs (λ x m. w x (inr m)) o l a,
+)
   where
     us : Trees
     us = children (called_tree pages page)
 
-    s : StandsOnLines pages page t
-    s = block_on_lines pages page (i ∷ is) t l.utf8 l.unrefused e b
-
-    w : 1 ≤ length (flat t)
-    w = block_byte pages page (i ∷ is) t l.utf8 l.unrefused e b
-
-    n : IsThere pages page i is t
-    n = record { utf8 = l.utf8; unrefused = l.unrefused; there = below i is (called_tree pages page) t e; block = b; byte = w }
-
-    by : Answer pages page (numbers_for pages page ps) i is t sc → IsOneOf (i ∷ is) a.taken.paths ⊎ IsExceptedByLines pages page t
-    by (inr x) = inr x
-    by (inl m) =
-        inl (a.there i is (block_in i is us t n.there b w)
-        (subst (IsAmongNumbers (starts_in 0 i is us))
-        (ap (map (page_byte pages page)) (starts_on 0 sc.ts bs o)
-        ∙ calling_bytes pages page bs sc.behind l (page_joined pages page (all_lines bs sc.behind) l.are) (page_ones pages page l.utf8 l.unrefused)) m))
+    f : FoundNode pages page p
+    f = h.0
 
 some_lines : (f : ℕ → ℕ) (n : ℕ) (ts : List Told) → IsAmongNumbers n (map f (told_starts 0 ts)) → AreSome ts
 some_lines f n [] h = absurd h
 some_lines f n (t ∷ ts) h = tt
 
-some_so : (pages : Pages) (page : List ℕ) (ps : List (List ℕ)) (sc : ScanFor pages page (numbers_for pages page ps)) → IsUtf8 page → refusal_of_page pages page ≡ None
-    → (p : List ℕ) (t : Tree) → IsOneOf p ps → IsReachedAt p (called_tree pages page) t → IsTextBlock (label t).kind → AreSome sc.ts ⊎ IsExceptedByLines pages page t
-some_so pages page ps sc u r [] t h e b = absurd (body_none pages page t u r e b)
-some_so pages page ps sc u r (i ∷ is) t h e b = by (by_lines pages page (numbers_for pages page ps) i is t sc n s.stands s.by_lines (among_paths us (i ∷ is) ps h))
-  where
-    us : Trees
-    us = children (called_tree pages page)
+some_found : (pages : Pages) (page : List ℕ) (ps : List (List ℕ)) (h : FoundNodes pages page ps) → 1 ≤ length ps
+    → (sc : ScanFor pages page (tolds (node_lines_of pages page ps h))) → AreSome sc.ts
+some_found pages page [] h some sc = absurd (omega (arith, some))
+some_found pages page (p ∷ ps) h some sc =
+    let f : FoundNode pages page p = h.0 in
+    some_lines (page_byte pages page) (starts_in 0 f.first f.others (children (called_tree pages page))) sc.ts
+    (f.found (f.line.told ∷ tolds (node_lines_of pages page ps h.1)) sc (inl refl))
 
-    s : StandsOnLines pages page t
-    s = block_on_lines pages page (i ∷ is) t u r e b
+page_seam : (ts : List Told) → Seam [] [] (map lined ts)
+page_seam [] = tt
+page_seam (t ∷ ts) = inl (refl, refl)
 
-    n : IsThere pages page i is t
-    n = record { utf8 = u; unrefused = r; there = below i is (called_tree pages page) t e; block = b; byte = block_byte pages page (i ∷ is) t u r e b }
-
-    by : Answer pages page (numbers_for pages page ps) i is t sc → AreSome sc.ts ⊎ IsExceptedByLines pages page t
-    by (inr x) = inr x
-    by (inl m) = inl (some_lines (page_byte pages page) (starts_in 0 i is us) sc.ts m)
-
-pub lines_together : (pages : Pages) (page : List ℕ) (ps : List (List ℕ)) → AreOnLines pages page ps
-lines_together pages page ps =
-    let ls : Lines = full_lines (expanded_page pages page).items in
-    let ns : List ℕ = numbers_for pages page ps in
-    let sc : ScanFor pages page ns = scan (byte_in pages page ns) (byte_decided pages page ns) (length ls) [] [] false ls (omega arith) in
+pub lines_together : (pages : Pages) (page : List ℕ) (ps : List (List ℕ)) → IsUtf8 page → refusal_of_page pages page ≡ None → 1 ≤ length ps
+    → EachEditable pages page ps → TakeThere pages page ps
+lines_together pages page ps u r some each =
+    let items : List Item = (expanded_page pages page).items in
+    let calls : List OuterCall = (expanded_page pages page).outer in
+    let ls : Lines = full_lines items in
+    let h : FoundNodes pages page ps = found_nodes pages page ps u r each in
+    let ks : List (KnownTold pages page) = node_lines_of pages page ps h in
+    let os : List Told = tolds ks in
+    let sc : ScanFor pages page os = scan (cut_among os) (among_decided os) (length ls) [] [] false ls (omega arith) in
+    let runs : AreRuns goes_on (all_lines (map lined sc.ts) sc.behind) items = subst (λ (zs : Lines). AreRuns goes_on zs items) sc.are (runs_are goes_on items) in
+    let j : AreJoined pages page 0 [] sc.ts =
+    joined_from pages page ks [] [] [] 0 sc.ts sc.behind items refl refl (page_seam sc.ts) sc.asked (told_first sc.ts sc.behind sc.told) runs
+    (page_joined pages page (all_lines (map lined sc.ts) sc.behind) sc.are) in
+    let c = all_contents pages calls [] j.bs j.editable in
+    let l : IsLinedCalling pages page j.bs sc.behind = record {
+      utf8 = u;
+      are = sc.are ∙ lines_same sc.ts j.bs sc.behind j.on;
+      lined = lined_on sc.ts j.bs sc.behind j.on (are_told sc.ts sc.behind (some_found pages page ps h some sc) sc.told);
+      here = j.here;
+      contents = c.0;
+      editable = c.1;
+      apart = j.apart;
+      unrefused = r;
+      free = j.free;
+    } in
+    let a : TakenAt pages page j.bs sc.behind = taken_at pages page j.bs sc.behind l in
     record {
-      ts = sc.ts;
+      bs = j.bs;
       behind = sc.behind;
-      are = sc.are;
-      some = some_so pages page ps sc;
-      lined_so = λ some bs o. lined_on sc.ts bs sc.behind o (are_told sc.ts sc.behind some sc.told);
-      takes = λ bs o l.
-          let a : TakenAt pages page bs sc.behind = taken_at pages page bs sc.behind l in
-          record { taken = a.taken; there = there_so pages page ps sc bs o l a };
+      lined = l;
+      taken = a.taken;
+      there = each_there pages page ps h os sc j.bs (λ o m. m) j.on l a;
     }

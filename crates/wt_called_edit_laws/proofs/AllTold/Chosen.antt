@@ -95,7 +95,7 @@ most_decided m n = by (less_or m n)
     by (inl h) = inl h
     by (inr h) = inr (λ g. omega (arith, h, g))
 
-none_decided : (o : Option ℕ) → Decided (o ≡ None)
+pub none_decided : (o : Option ℕ) → Decided (o ≡ None)
 none_decided None = inl refl
 none_decided (Some k) = inr (λ e. absurd (cc))
 
@@ -116,7 +116,7 @@ function_decided : (x : Item) → Decided (IsNoFunction x)
 function_decided (char o b) = inl tt
 function_decided (whole f o bs) = form_decided f o bs
 
-own_decided : (xs : List Item) → Decided (AreOfPage xs)
+pub own_decided : (xs : List Item) → Decided (AreOfPage xs)
 own_decided [] = inl tt
 own_decided (x ∷ xs) = three_decided (call_of x ≡ None) (IsNoFunction x) (AreOfPage xs) (none_decided (call_of x)) (function_decided x) (own_decided xs)
 

@@ -80,7 +80,7 @@ record Behind (calls : List OuterCall) (front fr es : List Item) (at : ℕ) : Ty
   ends : last_of None fr ≡ None
   byte : at ≡ length (text_from calls None fr)
 
-last_suffix : (xs ys : List Item) → last_of None (xs ++ ys) ≡ None → last_of None ys ≡ None
+pub last_suffix : (xs ys : List Item) → last_of None (xs ++ ys) ≡ None → last_of None ys ≡ None
 last_suffix xs [] e = refl
 last_suffix xs (y ∷ ys) e = sym (last_append None xs (y ∷ ys)) ∙ e
 
@@ -102,7 +102,7 @@ line_byte calls front fr es at t b =
     omega (arith, b.byte, ap (λ (zs : List Item). length (text_from calls None zs)) all, text_behind calls fr (es ++ j) b.ends)
 
 -- its lines, and what is left of them
-lines_of_own : (t : Told) → joined (own_lines t) ≡ ((lined t).marks ++ content (own_items (lined t))) ++ ending (own_items (lined t))
+pub lines_of_own : (t : Told) → joined (own_lines t) ≡ ((lined t).marks ++ content (own_items (lined t))) ++ ending (own_items (lined t))
 lines_of_own t =
     let b : LinedBlock = lined t in
     append_assoc b.marks b.first (joined b.more) ∙ ap (λ (zs : List Item). b.marks ++ zs) (sym (content_ending (own_items b)))

@@ -224,7 +224,7 @@ Answer pages page i is t a u r = Told_at pages page i is a u r ⊎ IsExcepted pa
 pub tables_same : (before : Lines) → tables_behind 0 before ≡ length (open_after [] (written_rows 0 before))
 tables_same before = open_size [] 0 before refl
 
-text_all : (n : ℕ) (ls : Lines) → AreOfText n ls → AllText n ls
+pub text_all : (n : ℕ) (ls : Lines) → AreOfText n ls → AllText n ls
 text_all n [] h = tt
 text_all n (l ∷ ls) h = (h.0, text_all n ls h.1)
 
@@ -255,7 +255,7 @@ begins_so : (before : Lines) (l : List Item) (o : Told) → (lined o).before ≡
 begins_so before l o e f = omega (arith, ap (λ (ls : Lines). size (joined ls)) e, ap size f)
 
 -- each of text shows something
-all_past : (n : ℕ) (ls : Lines) → AreOfText n ls → AllPast ls
+pub all_past : (n : ℕ) (ls : Lines) → AreOfText n ls → AllPast ls
 all_past n [] h = tt
 all_past n (l ∷ ls) h = (some_past n l (λ w. let wrong : line.Blank ≡ line.Text = sym w ∙ h.0 in absurd (cc)), all_past n ls h.1)
 
@@ -278,7 +278,7 @@ or_first true v e = absurd (cc)
 or_first false v e = refl
 
 -- a node that isn't tangled touches no call that is text
-untouched_tree : (e : Expanded) (page : List ℕ) (t : Tree) → is_tangled e page t ≡ false → touches_text_call e.text_calls (label t).ranges ≡ false
+pub untouched_tree : (e : Expanded) (page : List ℕ) (t : Tree) → is_tangled e page t ≡ false → touches_text_call e.text_calls (label t).ranges ≡ false
 untouched_tree e page (tree l ts) h =
     or_first (touches_text_call e.text_calls l.ranges) (touches_open_tag (before page l.ranges) (tree l ts) || has_faulty_group e ts) h
 

@@ -45,16 +45,16 @@ use Rattle.wt_called_edit_laws.proofs.AllTold.Starts.{HasByte}
 
 -- ---- kinds
 
-para_kind : (calls : List OuterCall) (n : ℕ) (before : List Item) (rs : List Row) (behind : List Item)
+pub para_kind : (calls : List OuterCall) (n : ℕ) (before : List Item) (rs : List Row) (behind : List Item)
     → (label (node_between calls n before (para rs) behind)).kind ≡ kind.Para
 unfolding para
 para_kind calls n before rs behind = refl
 
-abbrev is_para : Kind → Bool
+abbrev pub is_para : Kind → Bool
 is_para kind.Para = true
 is_para k = false
 
-heading_kind : (calls : List OuterCall) (n : ℕ) (before own behind : List Item)
+pub heading_kind : (calls : List OuterCall) (n : ℕ) (before own behind : List Item)
     → is_para (label (node_between calls n before (heading own) behind)).kind ≡ false
 unfolding heading
 heading_kind calls n before own behind = refl

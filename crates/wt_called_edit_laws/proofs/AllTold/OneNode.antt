@@ -87,7 +87,7 @@ other_items [] = []
 other_items (x ∷ xs) = xs
 
 -- as long fronts of one list are the same
-front_same : (xs ys us vs : List Item) → xs ++ ys ≡ us ++ vs → length xs ≡ length us → xs ≡ us
+pub front_same : (xs ys us vs : List Item) → xs ++ ys ≡ us ++ vs → length xs ≡ length us → xs ≡ us
 unfolding item_or other_items
 front_same [] ys [] vs e n = refl
 front_same [] ys (u ∷ us) vs e n = absurd (omega (arith, n))

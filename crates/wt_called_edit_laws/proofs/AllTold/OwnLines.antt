@@ -141,7 +141,7 @@ items_own (x ∷ xs) h p = let r = all_split (opened x) (opened_all xs) p in (it
 
 -- ---- of lines
 
-cancel_left : (xs ys zs : List Item) → xs ++ ys ≡ xs ++ zs → ys ≡ zs
+pub cancel_left : (xs ys zs : List Item) → xs ++ ys ≡ xs ++ zs → ys ≡ zs
 cancel_left [] ys zs e = e
 cancel_left (x ∷ xs) ys zs e = cancel_left xs ys zs (ap rest_of e)
   where

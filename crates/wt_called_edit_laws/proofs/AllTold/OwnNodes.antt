@@ -40,11 +40,11 @@ use Rattle.wt_called_edit_laws.proofs.AllTold.TreeBlocks.{page_walked}
 -- ---- its node, wherever it is
 
 -- what is round a clean node is nothing to its walk
-record IsSameWalk (calls : List OuterCall) (o : Option ℕ) (at : ℕ) (p : Option ℕ) (u : ItemTree) : Type 0 where
-  clean : clean_at None None u ≡ true
-  same : placeless (walked calls (group_data calls) o at p u) ≡ block_in calls u
+pub record IsSameWalk (calls : List OuterCall) (o : Option ℕ) (at : ℕ) (p : Option ℕ) (u : ItemTree) : Type 0 where
+  pub clean : clean_at None None u ≡ true
+  pub same : placeless (walked calls (group_data calls) o at p u) ≡ block_in calls u
 
-same_walk : (calls : List OuterCall) (o : Option ℕ) (at : ℕ) (p : Option ℕ) (u : ItemTree) → clean_at o p u ≡ true → IsSameWalk calls o at p u
+pub same_walk : (calls : List OuterCall) (o : Option ℕ) (at : ℕ) (p : Option ℕ) (u : ItemTree) → clean_at o p u ≡ true → IsSameWalk calls o at p u
 same_walk calls o at p u e =
     let xs : List Item = tree_items u in
     let starts : FreeStarts o None p xs = record { first = (clean_apart o p u e).first; second = refl } in

@@ -23,7 +23,7 @@ use Rattle.wt_text_edit_laws.proofs.Cuts.TextLines.{joined_both, lines_of, IsEnd
 use Rattle.wt_text_edit_laws.proofs.Headings.HeadingRows.{round_is as heading_round_is}
 use Rattle.wt_text_edit_laws.proofs.Paragraphs.Marks.{AreMarks}
 use Rattle.wt_called_edit_laws.specs.AnyBlocks.{open_after, past_break}
-use Rattle.wt_called_edit_laws.specs.CalledContents.{items_round, AreItemsOf, StayText}
+use Rattle.wt_called_edit_laws.specs.CalledContents.{items_round, tree_round, AreItemsOf, StayText}
 use Rattle.wt_called_edit_laws.specs.LinedHeadings.{sides_of}
 use Rattle.wt_called_edit_laws.specs.PlacedLines.{LinedBlock}
 use Rattle.wt_called_edit_laws.specs.RowBlocks.{text_row}
@@ -36,13 +36,17 @@ use Rattle.wt_called_edit_laws.proofs.AllTold.LineKinds.{Lines}
 
 -- ---- one block of a page, by its lines
 
--- what is read of its content is what is on its lines
-pub record OwnRound (b : LinedBlock) (rest : Lines) : Type 0 where
-  pub items : items_round b.block (page_items b.text) ≡ content (own_items b)
-  pub are : AreItemsOf b.block (page_items b.text)
-  pub stays : StayText b.block (length (open_after [] (written_rows 0 b.before))) (page_items b.text)
+-- these items, with a block's delimiters, are what is on its lines
+pub record IsRoundOf (k : TextBlock) (xs : List Item) (b : LinedBlock) (rest : Lines) : Type 0 where
+  pub items : items_round k xs ≡ content (own_items b)
+  pub are : AreItemsOf k xs
+  pub stays : StayText k (length (open_after [] (written_rows 0 b.before))) xs
   pub round : Round b rest
   pub runs : AreRuns goes_on (((b.marks ++ b.first) ∷ b.more) ++ rest) (joined (((b.marks ++ b.first) ∷ b.more) ++ rest))
+
+-- so is what is read of its content
+abbrev pub OwnRound : LinedBlock → Lines → Type 0
+OwnRound b rest = IsRoundOf b.block (page_items b.text) b rest
 
 pub stay_so : (k : TextBlock) (n : ℕ) (xs ys : List Item) → items_round k xs ≡ ys → StayText k n ys → StayText k n xs
 stay_so a_paragraph n xs ys e h = subst (StayText a_paragraph n) (sym e) h
@@ -100,14 +104,13 @@ marks_are (m ∷ ms) h = (and_first (is_mark m) (list_all is_mark ms) h, marks_a
 
 -- ---- its tree
 
-pub paragraph_is : (before : Lines) (m f : List Item) (r rest : Lines) → OwnRound (lined (a_paragraph_of before m f r)) rest → list_all is_mark m ≡ true
-    → AllText (length (open_after [] (written_rows 0 before))) ((m ++ f) ∷ r)
-    → para (map text_row ((m ++ f) ∷ r)) ≡ block_tree a_paragraph (lined (a_paragraph_of before m f r)).text
-paragraph_is before m f r rest o marks h =
+pub paragraph_of : (xs : List Item) (before : Lines) (m f : List Item) (r rest : Lines) → IsRoundOf a_paragraph xs (lined (a_paragraph_of before m f r)) rest
+    → list_all is_mark m ≡ true → AllText (length (open_after [] (written_rows 0 before))) ((m ++ f) ∷ r)
+    → para (map text_row ((m ++ f) ∷ r)) ≡ tree_round a_paragraph xs
+paragraph_of xs before m f r rest o marks h =
     let b : LinedBlock = lined (a_paragraph_of before m f r) in
     let n : ℕ = length (open_after [] (written_rows 0 before)) in
     let own : List Item = own_items b in
-    let xs : List Item = page_items b.text in
     let ks : Lines = (m ++ f) ∷ r in
     let tail : List Item = ending own ++ joined rest in
     let whole_is : m ++ (xs ++ tail) ≡ joined (ks ++ rest) =
@@ -127,10 +130,16 @@ paragraph_is before m f r rest o marks h =
     ap para (cancel_right (map text_row ks) (block_rows a_paragraph xs o.are m tail) (rows_from n rest) both)
     ∙ led_para m (own_rows xs (text_block xs o.are) tail) ∙ own_para xs tail (text_block xs o.are) o.are.own_breaks
 
+pub paragraph_is : (before : Lines) (m f : List Item) (r rest : Lines) → OwnRound (lined (a_paragraph_of before m f r)) rest → list_all is_mark m ≡ true
+    → AllText (length (open_after [] (written_rows 0 before))) ((m ++ f) ∷ r)
+    → para (map text_row ((m ++ f) ∷ r)) ≡ block_tree a_paragraph (lined (a_paragraph_of before m f r)).text
+paragraph_is before m f r rest o marks h = paragraph_of (page_items (lined (a_paragraph_of before m f r)).text) before m f r rest o marks h
+
+pub heading_of : (s : Sides) (xs : List Item) (before : Lines) (m l : List Item) (rest : Lines) → IsRoundOf (a_heading s) xs (lined (a_heading_on before m l)) rest
+    → heading (content l) ≡ tree_round (a_heading s) xs
+heading_of s xs before m l rest o =
+    ap (λ (ys : List Item). heading (content ys)) (sym (append-nil l)) ∙ ap heading (sym o.items) ∙ heading_round_is s xs o.are.sides o.are.inside o.are.of_level
+
 pub heading_is : (before : Lines) (m l : List Item) (rest : Lines) → OwnRound (lined (a_heading_on before m l)) rest
     → heading (content l) ≡ block_tree (lined (a_heading_on before m l)).block (lined (a_heading_on before m l)).text
-heading_is before m l rest o =
-    let b : LinedBlock = lined (a_heading_on before m l) in
-    let s : Sides = sides_of (content l) in
-    ap (λ (ys : List Item). heading (content ys)) (sym (append-nil l)) ∙ ap heading (sym o.items)
-    ∙ heading_round_is s (page_items b.text) o.are.sides o.are.inside o.are.of_level
+heading_is before m l rest o = heading_of (sides_of (content l)) (page_items (lined (a_heading_on before m l)).text) before m l rest o

@@ -32,18 +32,18 @@ use Rattle.wt_text_edit_laws.specs.TextBetween.{AreEnded, BeginsShown}
 use Rattle.wt_text_edit_laws.specs.TextBlocks.{TextBlock, a_paragraph, a_heading, source_of, block_items}
 use Rattle.wt_text_edit_laws.proofs.Cuts.ItemCuts.{HaveBytes, page_cut, cut_from}
 use Rattle.wt_text_edit_laws.proofs.Cuts.Seen.{shown_alone}
-use Rattle.wt_text_edit_laws.proofs.Cuts.TextLines.{IsEnding, joined_is, lines_of}
+use Rattle.wt_text_edit_laws.proofs.Cuts.TextLines.{IsEnding, joined_is, lines_of, runs_behind}
 use Rattle.wt_beside_laws.proofs.Derived.BodyRead.{parts_are}
 use Rattle.wt_called_edit_laws.specs.AnyBlocks.{open_after, rows_of_part, open_behind_part, LeadsInto, past_break, BeginsAfter, NextApart, EndsAfter}
 use Rattle.wt_called_edit_laws.specs.StaysIn.{StaysIn}
 use Rattle.wt_called_edit_laws.specs.CalledContents.{StayText}
 use Rattle.wt_called_edit_laws.specs.CallingBlocks.{IsContentIn, AreContentsInFolder, spots_with_calls, items_past}
 use Rattle.wt_called_edit_laws.specs.Covered.{HaveFreeBytes}
-use Rattle.wt_called_edit_laws.specs.EditableBlocks.{IsEditableWithCalls}
+use Rattle.wt_called_edit_laws.specs.EditableBlocks.{AreEditableContents, IsEditableWithCalls}
 use Rattle.wt_called_edit_laws.specs.Groups.{called_tree}
 use Rattle.wt_called_edit_laws.specs.InCells.{AreTextLines}
 use Rattle.wt_called_edit_laws.specs.LinedAmong.{spots_on, end_on, AreOfPage, AreBeside}
-use Rattle.wt_called_edit_laws.specs.LinedCalling.{LinesOf, IsCallingAt, AreCallingAfter, spot_on, IsCallingHere, AreCallingHere, AreApartFrom, IsLinedCalling}
+use Rattle.wt_called_edit_laws.specs.LinedCalling.{LinesOf, IsCallingAt, AreCallingAfter, AreCallingLined, spot_on, IsCallingHere, AreCallingHere, AreApartFrom, IsLinedCalling}
 use Rattle.wt_called_edit_laws.specs.Parts.{calls_to, calls_past, called_items, called_outers, IsByParts}
 use Rattle.wt_called_edit_laws.specs.PartTexts.{AreSourcesAt}
 use Rattle.wt_called_edit_laws.specs.PlacedAmong.{StandAfter}
@@ -475,9 +475,37 @@ further pages page last open_tables es (b ∷ ls) behind p k qs xs runs i f r h 
 
 -- ---- the page
 
-calling_lined : (pages : Pages) (page : List ℕ) (ls : List LinedBlock) (behind : List (List Item)) → IsLinedCalling pages page ls behind
-    → (spots_source (spots_on (calls_of pages page) [] ls) (end_on (calls_of pages page) [] ls behind) ≡ page)
-    × IsPlacedCalling pages (spots_on (calls_of pages page) [] ls) (end_on (calls_of pages page) [] ls behind)
+-- as `IsLinedCalling`, whatever bytes groups have
+pub record IsLinedWithCalls (pages : Pages) (page : List ℕ) (bs : List LinedBlock) (behind : List (List Item)) : Type 0 where
+  pub utf8 : IsUtf8 page
+  pub are : full_lines (expanded_page pages page).items ≡ all_lines bs behind
+  pub lined : AreCallingLined bs behind
+  pub here : AreCallingHere (calls_of pages page) bs
+  pub contents : AreContentsInFolder pages (spots_on (calls_of pages page) [] bs)
+  pub editable : AreEditableContents pages (spots_on (calls_of pages page) [] bs)
+  pub apart : AreApartFrom (calls_of pages page) (expanded_page pages page).text_calls 0 [] bs
+  pub unrefused : refusal_of_page pages page ≡ None
+
+-- what the first block has on its lines is what it gives by itself, behind so many calls
+pub record IsGivenFirst (pages : Pages) (b : LinedBlock) (tail : List (List Item)) : Type 0 where
+  pub number : ℕ
+  pub gives : content (own_items b) ≡ part_items pages number (source_of b.block b.text)
+  pub stays : StayText b.block (length (open_at [] b)) (part_items pages number b.text)
+  pub around : Round b tail
+  pub runs : AreRuns goes_on (((b.marks ++ b.first) ∷ b.more) ++ tail) (joined (((b.marks ++ b.first) ∷ b.more) ++ tail))
+
+abbrev GivesFirst : Pages → List LinedBlock → List (List Item) → Type 0
+GivesFirst pages [] behind = ⊥
+GivesFirst pages (b ∷ bs) behind = IsGivenFirst pages b (all_lines bs behind)
+
+record AreLinedParts (pages : Pages) (page : List ℕ) (ls : List LinedBlock) (behind : List (List Item)) : Type 0 where
+  whole : spots_source (spots_on (calls_of pages page) [] ls) (end_on (calls_of pages page) [] ls behind) ≡ page
+  placed : HaveFreeBytes 0 (spots_on (calls_of pages page) [] ls) (called_tree pages page)
+      → IsPlacedCalling pages (spots_on (calls_of pages page) [] ls) (end_on (calls_of pages page) [] ls behind)
+  first : GivesFirst pages ls behind
+
+calling_lined : (pages : Pages) (page : List ℕ) (ls : List LinedBlock) (behind : List (List Item)) → IsLinedWithCalls pages page ls behind
+    → AreLinedParts pages page ls behind
 calling_lined pages page [] behind h = absurd h.lined
 calling_lined pages page (b ∷ ls) behind h =
     let calls : List OuterCall = calls_of pages page in
@@ -529,9 +557,10 @@ calling_lined pages page (b ∷ ls) behind h =
     let others = spots_with_calls pages (calls_past pages 0 s) ss in
     let past : List Item = items_past pages (calls_past pages 0 s) ss end in
     let P : List Item → Type 0 = λ zs. LeadsInto b.block [] zs × StaysIn b.block [] zs text
-    × StandAfter b.block (open_behind_part [] zs) others past in (
-      same,
-      record {
+    × StandAfter b.block (open_behind_part [] zs) others past in
+    record {
+      whole = same;
+      placed = λ free. record {
         utf8 = utf8;
         cuts = cuts;
         contents = h.contents;
@@ -543,17 +572,40 @@ calling_lined pages page (b ∷ ls) behind h =
           subst (λ (rs : List Row). StandAfter b.block (open_after [] rs) others past) (sym rows_are) later,
         );
         unrefused = subst (λ (bs : List ℕ). refusal_of_page pages bs ≡ None) (sym same) h.unrefused;
-        free = subst (λ (bs : List ℕ). HaveFreeBytes 0 (s ∷ ss) (called_tree pages bs)) (sym same) h.free;
-      },
-    )
+        free = subst (λ (bs : List ℕ). HaveFreeBytes 0 (s ∷ ss) (called_tree pages bs)) (sym same) free;
+      };
+      first = record {
+        number = calls_to pages 0 s;
+        gives = parts.gives;
+        stays = stays;
+        around = l.around;
+        runs = runs_behind goes_on b.before (ts ++ tail) xs runs;
+      };
+    }
+
+as_lined : (pages : Pages) (page : List ℕ) (ls : List LinedBlock) (behind : List (List Item)) → IsLinedCalling pages page ls behind → IsLinedWithCalls pages page ls behind
+as_lined pages page ls behind h = record {
+  utf8 = h.utf8;
+  are = h.are;
+  lined = h.lined;
+  here = h.here;
+  contents = h.contents;
+  editable = h.editable;
+  apart = h.apart;
+  unrefused = h.unrefused;
+}
+
+-- of one block alone
+pub given_first : (pages : Pages) (page : List ℕ) (b : LinedBlock) (behind : List (List Item)) → IsLinedWithCalls pages page (b ∷ []) behind → IsGivenFirst pages b behind
+given_first pages page b behind h = (calling_lined pages page (b ∷ []) behind h).first
 
 pub calling_whole : (pages : Pages) (page : List ℕ) (ls : List LinedBlock) (behind : List (List Item)) → IsLinedCalling pages page ls behind
     → spots_source (spots_on (calls_of pages page) [] ls) (end_on (calls_of pages page) [] ls behind) ≡ page
-calling_whole pages page ls behind h = (calling_lined pages page ls behind h).0
+calling_whole pages page ls behind h = (calling_lined pages page ls behind (as_lined pages page ls behind h)).whole
 
 pub lined_calling : (pages : Pages) (page : List ℕ) (ls : List LinedBlock) (behind : List (List Item)) → IsLinedCalling pages page ls behind
     → IsPlacedCalling pages (spots_on (calls_of pages page) [] ls) (end_on (calls_of pages page) [] ls behind)
-lined_calling pages page ls behind h = (calling_lined pages page ls behind h).1
+lined_calling pages page ls behind h = (calling_lined pages page ls behind (as_lined pages page ls behind h)).placed h.free
 
 pub calling_editable : (pages : Pages) (page : List ℕ) (ls : List LinedBlock) (behind : List (List Item)) → IsLinedCalling pages page ls behind
     → IsEditableWithCalls pages (spots_on (calls_of pages page) [] ls) (end_on (calls_of pages page) [] ls behind)

@@ -40,7 +40,7 @@ not_marks (w ∷ ws) c zs h = not_marks ws c zs (and_rest (is_mark w) (list_all 
     and_rest true b e = e
     and_rest false b e = absurd (cc)
 
-ends_before : (calls : List OuterCall) (fs ms behind : List Item) (s : Span) → IsTextIn calls None 0 (fs ++ (ms ++ behind)) s → list_all is_mark ms ≡ true
+pub ends_before : (calls : List OuterCall) (fs ms behind : List Item) (s : Span) → IsTextIn calls None 0 (fs ++ (ms ++ behind)) s → list_all is_mark ms ≡ true
     → s.1 ≤ length (text_from calls None (fs ++ ms)) → s.1 ≤ length (text_from calls None fs)
 ends_before calls fs ms behind s t marks le = by (two_cuts own t.rest fs (ms ++ behind) (sym t.ends))
   where

@@ -1,5 +1,5 @@
 -- The groups in a block of the page are found by their numbers, wherever they are in it.
-use Rattle.std.proofs.Common.{arith, ◌≡◌, ◌≢◌, ℕ, ◌+◌, ◌<◌, Bool, true, false, List, length, refl, sym, ap, ◌∙◌, subst}
+use Rattle.std.proofs.Common.{arith, ◌≡◌, ◌≢◌, ℕ, ◌+◌, ◌<◌, Bool, true, false, List, length, refl, sym, ◌∙◌, subst}
 use Rattle.std.specs.Prelude.{if◌then◌else◌}
 use Rattle.wt_tree.specs.declared.kind.Kind.{Kind}
 use Rattle.wt_tree.specs.declared.kind.Kind.TheVariants as kind
@@ -9,13 +9,12 @@ use Rattle.wt_tree.specs.Tiling.{is_group}
 use Rattle.wt_tree.specs.Tree.{Label, Tree, tree, Trees, none, more, label}
 use Rattle.wt_annotated.specs.Numbering.{number_of, next_after, count}
 use Rattle.wt_difference.specs.Unedited.{GroupOr}
-use Rattle.wt_original.specs.Kept.{Kept, KeptNode, items, visible, found_from, found_in, kept_nodes}
-use Rattle.wt_original.specs.Numbers.{counts_up}
+use Rattle.wt_original.specs.Kept.{Kept, items, visible, found_from, found_in, kept_nodes}
 use Rattle.wt_link_spelling.specs.Spelling.{children_of}
 use Rattle.wt_typed_blocks.proofs.SentGroups.{in_group}
 use Rattle.wt_beside_laws.proofs.BlockNumbers.{next_some}
 use Rattle.wt_beside_laws.proofs.OwnSigns.{Every, every_left, every_right, Finds, all_found, own_found, inside_found, held_if}
-use Rattle.wt_called_edit_laws.specs.FoundGroups.{IsFoundAs, HasFoundGroups, HaveFoundGroups}
+use Rattle.wt_called_edit_laws.specs.FoundGroups.{HasFoundGroups, HaveFoundGroups}
 use Rattle.wt_called_edit_laws.specs.Settled.{settled_label, settled, all_settled}
 use Rattle.wt_called_edit_laws.proofs.BareInsides.{IsBare, AreBare}
 use Rattle.wt_called_edit_laws.proofs.Beside.Counts.{settled_counts}

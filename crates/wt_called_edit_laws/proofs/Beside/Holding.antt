@@ -1,14 +1,13 @@
 -- A node of the page round whatever calls give: sent as it is, with what is written for the groups in it, it is unchanged.
-use Rattle.std.proofs.Common.{◌≡◌, ℕ, Bool, true, false, Some, None, Option, List, refl, sym, ap, ◌∙◌, subst}
+use Rattle.std.proofs.Common.{◌≡◌, ℕ, Bool, true, false, Option, List, refl, sym, ap, ◌∙◌}
 use Rattle.std.specs.Prelude.{◌||◌, if◌then◌else◌}
 use Rattle.wt_tree.specs.declared.kind.Kind.{Kind}
 use Rattle.wt_tree.specs.Kinds.{showing}
-use Rattle.wt_tree.specs.Plain.{Plains, ended, shown_before, plain, plain_before, plains_before}
+use Rattle.wt_tree.specs.Plain.{Plains, ended, shown_before, plain_before, plains_before}
 use Rattle.wt_tree.specs.Tiling.{is_group}
 use Rattle.wt_tree.specs.Tree.{Label, Tree, tree, Trees, none, more, label}
 use Rattle.wt_original.specs.Kept.{Kept, kept_with, kept_nodes}
-use Rattle.wt_original.specs.Page.{Page, page_of, TellsSame, is_unchanged, node_or, restored, restored_all}
-use Rattle.wt_difference.specs.Unedited.{GroupOr}
+use Rattle.wt_original.specs.Page.{page_of, TellsSame, is_unchanged, node_or, restored, restored_all}
 use Rattle.wt_typed_blocks.specs.Sent.{IsSentAsIs, StandsAsIs, AllStandAsIs}
 use Rattle.wt_typed_blocks.proofs.SentGroups.{in_group}
 use Rattle.wt_typed_blocks.proofs.EditedShows.{shown_same}

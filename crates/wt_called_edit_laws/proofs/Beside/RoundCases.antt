@@ -1,5 +1,5 @@
 -- Worked case: the page's paragraph `[[X|{{t}}]] is`, where `Template:T` is a word: the link that holds the call stays, and other text is typed behind it.
-use Rattle.std.proofs.Common.{arith, ◌≡◌, ◌<◌, inl, inr, ℕ, false, Some, None, List, [], ◌∷◌, ◌++◌, map, refl, sym, ap, ◌∙◌, subst}
+use Rattle.std.proofs.Common.{arith, ◌≡◌, ◌<◌, inl, inr, ℕ, false, Some, List, [], ◌∷◌, ◌++◌, map, refl, sym, ap, ◌∙◌, subst}
 use Rattle.std.specs.Prelude.{codes}
 use Rattle.std.specs.Str.{is_utf8, chars, IsUtf8}
 use Rattle.std.specs.Str.Lossy.{utf8_valid_len}
@@ -15,7 +15,7 @@ use Rattle.wt_braces.specs.Found.{too_deep}
 use Rattle.wt_names.specs.Good.{is_forbidden, is_allowed, has_signature, is_step, begins_with_step, holds_step, ends_with_step, is_good, read_text}
 use Rattle.wt_names.specs.Namespace.{name_of, image, is_called, namespace_named, prefix_of, full_name_of}
 use Rattle.wt_names.specs.Reading.{whole_in, cut_namespace, title_in}
-use Rattle.wt_names.specs.Written.{link_to}
+use Rattle.wt_names.specs.Written.{link_text, link_to, stays_in_link}
 use Rattle.wt_tree.specs.Plain.{Plains, plain_before}
 use Rattle.wt_tree.specs.Source.{flat}
 use Rattle.wt_tree.specs.Tree.{Tree}
@@ -40,7 +40,8 @@ use Rattle.wt_tiles.specs.Tiles.{form_at as tile_at, link_or_url, tag_tile, swit
 use Rattle.wt_tiles.specs.Links.{link_at, link_in, target_of}
 use Rattle.wt_tiles.specs.Urls.{scheme_len, ext_link_at, bare_url_at}
 use Rattle.wt_context.specs.Chunks.{chunks}
-use Rattle.wt_context.specs.Heads.{link_head}
+use Rattle.wt_context.specs.Heads.{link_head, target, target_size}
+use Rattle.wt_visible.specs.SameNodes.{same_node}
 use Rattle.wt_context.specs.Line.{context_parts, line_parts}
 use Rattle.wt_context.specs.Nodes.{nested_tree, segments}
 use Rattle.wt_context.specs.Segments.{loose_segments}
@@ -70,6 +71,7 @@ use Rattle.wt_beside_laws.specs.NodeItems.{node_items}
 use Rattle.wt_beside_laws.specs.Nodes.{IsLinkNode}
 use Rattle.wt_beside_laws.specs.OwnSigns.{HaveOwn}
 use Rattle.wt_beside_laws.specs.PageSigns.{HasNoBreak}
+use Rattle.wt_beside_laws.specs.References.{ReferencesEnd}
 use Rattle.wt_beside_laws.specs.RoundCalls.{IsRoundCalls, AreShutCalls}
 use Rattle.wt_beside_laws.specs.Shown.{parts_shown_at}
 use Rattle.wt_beside_laws.proofs.Groups.Cases.{a_word}
@@ -177,21 +179,21 @@ round_link i = record {
   called = refl;
 }
 
-pub calls_shut : (expanded_page a_word link_source).outer ≡ called_at 4 ∷ []
+calls_shut : AreShutCalls (expanded_page a_word link_source).outer
 unfolding words closed form_at comment_len comment_line_len raw_len opening_tag tag_after closing_tag with_inside is_extension
     include_at entity_at named_entity decimal_entity hex_entity entity_names sign_word reduced rewritten parts_of text_members trimmed
     trimmed_items name_text called most_templates is_function title_of_target title_in_target read_text is_allowed is_forbidden
     is_good has_signature is_step begins_with_step holds_step ends_with_step name_of image is_called namespace_named prefix_of
     full_name_of whole_in cut_namespace title_in template_text begins_only ends_only loop_text depth_text absent_text
     utf8_valid_len is_utf8 chars encode link_to page_stretches expanded_page
-calls_shut = refl
+calls_shut = (refl, tt)
 
 pub stays : StaysRound a_word link_thing
 stays = record {
   flat = tt;
   node = λ i. subst (IsOwnNode link_thing) (sym (gives_link i)) (link_node i);
   round = λ i. subst IsRoundCalls (sym (gives_link i)) (round_link i);
-  calls = subst AreShutCalls (sym calls_shut) (refl, tt);
+  calls = calls_shut;
 }
 
 -- ---- the link as it is read
@@ -225,7 +227,7 @@ link_alone = refl
 
 read_in_line : IsReadInLine link_source
 read_in_line = record {
-  reads = λ rest. line_reads link_source (page_chars link_source) link_reads rest ∙ ap (λ (xs : List Item). xs ++ page_items rest) (sym link_read);
+  reads = λ rest e. line_reads link_source (page_chars link_source) link_reads rest ∙ ap (λ (xs : List Item). xs ++ page_items rest) (sym link_read);
   begins = subst BeginsShown (sym link_read) (refl, refl);
   unbroken = subst HasNoBreak (sym link_read) (refl, (refl, (refl, (refl, (refl, (refl, (refl, (refl, (refl, (refl, (refl, tt)))))))))));
   ends = subst LexemesEnd (sym link_read) tt;
@@ -246,9 +248,14 @@ raw_node = record {
 raw_glyphs : own_glyphs link_thing ≡ byte_glyphs link_source
 raw_glyphs = ap (λ (xs : List Item). map glyph_of xs) link_alone
 
+-- no reference begins in it
+no_reference : ReferencesEnd link_source
+no_reference =
+    ((λ e. absurd (cc)), ((λ e. absurd (cc)), ((λ e. absurd (cc)), ((λ e. absurd (cc)), ((λ e. absurd (cc)), ((λ e. absurd (cc)), ((λ e. absurd (cc)), ((λ e. absurd (cc)), ((λ e. absurd (cc)), ((λ e. absurd (cc)), ((λ e. absurd (cc)), tt)))))))))))
+
 is_read : IsReadThing link_thing
 is_read = record {
-  source = inl (inr (inr read_in_line), subst (λ (gs : List Glyph). IsLinkNode gs) (sym raw_glyphs) raw_node, λ e. absurd (cc));
+  source = inl (inr (inr (read_in_line, no_reference)), subst (λ (gs : List Glyph). IsLinkNode gs) (sym raw_glyphs) raw_node, λ e. absurd (cc));
   begins = refl;
   ends = refl;
 }
@@ -416,4 +423,5 @@ unfolding inline_spelling kept_with label_at nowiki is_guarded is_between_guard 
     tag_tile tag_at switch_at with_styles style_tree_of toggles_of toggle_at opens_tag closes_tag children
     nested_tree link_head link_in target_of read_text is_allowed is_forbidden is_good has_signature is_step begins_with_step holds_step ends_with_step
     name_of image is_called namespace_named prefix_of full_name_of whole_in cut_namespace title_in utf8_valid_len is_utf8 chars encode link_to
+    same_node target target_size link_text stays_in_link
 written_is = refl

@@ -1,7 +1,6 @@
 -- Worked case: the page `[[X|{{t}}]] is`, where `Template:T` is a word, is of the class: texts are typed beside the link that holds its call.
 use Rattle.std.proofs.Common.{arith, ◌≡◌, ◌<◌, ◌≤◌, inl, inr, ℕ, None, List, [], ◌∷◌, ◌++◌, length, refl, sym, ap, ◌∙◌, subst}
-use Rattle.std.specs.Prelude.{codes}
-use Rattle.std.specs.Str.{is_utf8, chars, IsUtf8}
+use Rattle.std.specs.Str.{is_utf8, chars}
 use Rattle.std.specs.Str.Lossy.{utf8_valid_len}
 use Rattle.std.proofs.lemmas.List.Elements.{All-nil, All-cons}
 use Rattle.std.proofs.lemmas.Str.{IsUtf8-nil}
@@ -74,7 +73,7 @@ use Rattle.wt_called_edit_laws.specs.PartTexts.{AreSourcesAt}
 use Rattle.wt_called_edit_laws.specs.PiecedParagraphs.{HasOwn, IsInPieces}
 use Rattle.wt_called_edit_laws.specs.WholeContents.{AreGroups, AreShutParts, IsPartIn, ArePartsIn}
 use Rattle.wt_called_edit_laws.proofs.Beside.EndCases.{called_at}
-use Rattle.wt_called_edit_laws.proofs.Beside.RoundCases.{source, link_source, pieces, link, behind, given, items_are, gives_link, link_thing, round_link, stays, calls_shut, of_page, in_pieces, among}
+use Rattle.wt_called_edit_laws.proofs.Beside.RoundCases.{source, link_source, pieces, link, behind, given, items_are, gives_link, link_thing, round_link, stays, of_page, in_pieces, among}
 use Rattle.wt_called_edit_laws.proofs.Whole.Contents.{thing_parts, round_shut_parts, shut_both}
 use Rattle.wt_called_edit_laws.proofs.Whole.Pieced.{as_written, pieced_content, pieced_holds}
 
@@ -96,22 +95,21 @@ parts_are i = refl
 parts_there : (i : ℕ) → content_parts_of a_paragraph (part_items a_word i source) ≡ parts i
 parts_there i = ap (content_parts_of a_paragraph) (items_are i) ∙ parts_are i
 
-source_calls : (expanded_page a_word source).outer ≡ called_at 4 ∷ []
+source_calls : (calls : List OuterCall) (i : ℕ) → AreSourcesAt calls i (expanded_page a_word source).outer → AreSourcesAt calls i (expanded_page a_word link_source).outer
 unfolding words closed form_at comment_len comment_line_len raw_len opening_tag tag_after closing_tag with_inside is_extension
     include_at entity_at named_entity decimal_entity hex_entity entity_names sign_word reduced rewritten parts_of text_members trimmed
     trimmed_items name_text called most_templates is_function title_of_target title_in_target read_text is_allowed is_forbidden
     is_good has_signature is_step begins_with_step holds_step ends_with_step name_of image is_called namespace_named prefix_of
     full_name_of whole_in cut_namespace title_in template_text begins_only ends_only loop_text depth_text absent_text
     utf8_valid_len is_utf8 chars encode link_to page_stretches expanded_page
-source_calls = refl
+source_calls calls i a = (a.0, tt)
 
 parts_in : (calls : List OuterCall) (i : ℕ) → AreSourcesAt calls i (expanded_page a_word source).outer → ArePartsIn calls (part_items a_word i source) (parts i)
 parts_in calls i a =
     let all : List Item = part_items a_word i source in
     let P : ItemTree → Type 0 = λ (v : ItemTree). IsPartIn 2 calls all v in
-    let own : AreSourcesAt calls i (expanded_page a_word link_source).outer = subst (AreSourcesAt calls i) (source_calls ∙ sym calls_shut) a in
     each_both P (line_parts (link i)) text_parts
-    (subst (λ (xs : List Item). EachNode P (line_parts xs)) (gives_link i) (thing_parts 2 a_word calls all i link_thing (inr stays) refl own)) tt
+    (subst (λ (xs : List Item). EachNode P (line_parts xs)) (gives_link i) (thing_parts 2 a_word calls all i link_thing (inr stays) refl (source_calls calls i a))) tt
 
 groups_here : (i : ℕ) (xs : List Item) → AreGroups xs (call_pieces (children (parts i)))
 unfolding context_parts chunks segments loose_segments tiles shapes closes tile_at link_or_url link_at ext_link_at bare_url_at scheme_len

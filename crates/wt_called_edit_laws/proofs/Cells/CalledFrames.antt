@@ -9,11 +9,11 @@ use Rattle.wt_text_edit_laws.specs.BlockSpots.{BlockSpot, SameRound, AreContents
 use Rattle.wt_text_edit_laws.specs.Contents.{IsNewContent}
 use Rattle.wt_text_edit_laws.specs.NoCalls.{CallsNothing}
 use Rattle.wt_text_edit_laws.specs.TextBlocks.{TextBlock, source_of, block_items}
-use Rattle.wt_text_edit_laws.proofs.Blocks.TypedBraces.{AreNewOver}
+use Rattle.wt_text_edit_laws.proofs.Blocks.TypedBraces.{AreNewOver, new_calm}
 use Rattle.wt_called_edit_laws.specs.Parts.{calls_to, called_items}
 use Rattle.wt_called_edit_laws.specs.Retyped.{AreRetyped}
 use Rattle.wt_called_edit_laws.proofs.Parts.NoCallsCalled.{PartsCalm, parts_calm, read_called, read_contents, read_none_called, calm_items, calm_count}
-use Rattle.wt_called_edit_laws.proofs.Parts.Retyped.{is_by_parts, firm_calm, same_round, new_over, blocks_over, typed_again}
+use Rattle.wt_called_edit_laws.proofs.Parts.Retyped.{is_by_parts, same_round, new_over, blocks_over, typed_again}
 use Rattle.wt_called_edit_laws.specs.AnyBlocks.{AreSpots}
 use Rattle.wt_called_edit_laws.specs.ItemSpots.{ItemSpot, items_of_spots, placed_items, ArePlaced, AreContentSpots, SameItems, AreNewIn}
 use Rattle.wt_called_edit_laws.specs.CalledBlocks.{spots_among, items_behind, CallNothing, AreAmongCalls, tree_by, counted, StandAmongCalls}
@@ -31,7 +31,7 @@ among_contents pages ss behind h = h.contents
 
 text_calm : (k : TextBlock) (was now : List ℕ) → (now ≡ was) ⊎ IsNewContent k was now → CallsNothing (block_items k was) → CallsNothing (block_items k now)
 text_calm k was now (inl e) h = subst (λ q. CallsNothing (block_items k q)) (sym e) h
-text_calm k was now (inr n) h = firm_calm k now n.firm
+text_calm k was now (inr n) h = new_calm k was now n
 
 pub calm_over : (ss rs : List BlockSpot) → AreRetyped ss rs → CallNothing ss → CallNothing rs
 calm_over [] [] t c = tt

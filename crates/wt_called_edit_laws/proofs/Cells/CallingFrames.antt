@@ -12,12 +12,12 @@ use Rattle.wt_part_laws.proofs.ExpandedBoth.{plain_anywhere}
 use Rattle.wt_text_edit_laws.specs.BlockSpots.{BlockSpot, AreContents}
 use Rattle.wt_text_edit_laws.specs.Contents.{IsContent}
 use Rattle.wt_text_edit_laws.specs.LonePages.{page_chars}
-use Rattle.wt_text_edit_laws.specs.NoCalls.{NonePairs, CallsNothing, AreUnbraced}
+use Rattle.wt_text_edit_laws.specs.NoCalls.{NonePairs, CallsNothing, AreUnbraced, braces_of}
 use Rattle.wt_text_edit_laws.specs.TextBlocks.{TextBlock, a_paragraph, a_heading, source_of, block_items}
 use Rattle.wt_text_edit_laws.specs.TypedHeadings.{opening, closing_items}
 use Rattle.wt_text_edit_laws.proofs.Blocks.BlockReading.{content_frame, content_read}
 use Rattle.wt_text_edit_laws.proofs.Blocks.TypedBraces.{line_unbraced}
-use Rattle.wt_text_edit_laws.proofs.Between.LessBraces.{BeginsUnbraced, braces_of, items_behind_end, items_before_start, none_unbraced, unbraced_ends}
+use Rattle.wt_text_edit_laws.proofs.Between.LessBraces.{BeginsUnbraced, items_behind_end, items_before_start, none_unbraced, unbraced_ends}
 use Rattle.wt_called_edit_laws.specs.CalledBlocks.{CallNothing, AreAmongCalls, counted, spots_among, items_behind}
 use Rattle.wt_called_edit_laws.specs.CalledContents.{items_round, AreItemsOf, IsTextAnywhere}
 use Rattle.wt_called_edit_laws.specs.CallingBlocks.{IsContentIn, IsNewContentIn, AreContentsInFolder, AreEdited, spots_with_calls, items_past, AreCallingBlocks, tree_with_calls, CallingBlocksStand}

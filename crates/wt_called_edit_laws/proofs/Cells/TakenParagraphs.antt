@@ -12,7 +12,7 @@ use Rattle.wt_text_edit_laws.specs.NoCalls.{CallsNothing}
 use Rattle.wt_text_edit_laws.specs.TextBlocks.{a_paragraph}
 use Rattle.wt_text_edit_laws.proofs.Paragraphs.SeenLines.{lines_seen}
 use Rattle.wt_text_edit_laws.proofs.Cuts.ItemCuts.{behind_alone}
-use Rattle.wt_beside_laws.specs.Calm.{AreCalm}
+use Rattle.wt_beside_laws.specs.Calm.{AreUtf8Nodes}
 use Rattle.wt_beside_laws.specs.Content.{AreKept}
 use Rattle.wt_beside_laws.specs.FlatBlocks.{lines_in}
 use Rattle.wt_beside_laws.specs.HeldLines.{AreHeldLines}
@@ -62,8 +62,8 @@ own_items page r rs p =
     }
 
 pub body_styled : (page : List ℕ) (r : Row) (rs : List Row) (p : IsParagraphAt (page_items page) r rs) → IsFreeParagraph page p.own p.rest
-    → AreHeldLines (lines p.own) → AreKept (signs_of_lines 0 (lines p.own)) → AreCalm (signs_of_lines 0 (lines p.own)) → IsStyledIn a_paragraph (sources p.own)
-body_styled page r rs p f held kept calm =
+    → AreHeldLines (lines p.own) → AreKept (signs_of_lines 0 (lines p.own)) → AreUtf8Nodes (signs_of_lines 0 (lines p.own)) → IsStyledIn a_paragraph (sources p.own)
+body_styled page r rs p f held kept utf8 =
     let so : List ℕ = sources p.own in
     let read : AreRead (spot_at p.before p.own ∷ []) (sources p.rest) = body_read page r rs p f in
     let items : OwnItems p.own p.rest = own_items page r rs p in
@@ -74,4 +74,4 @@ body_styled page r rs p f held kept calm =
     content_styled a_paragraph so read.0.block (subst CallsNothing (sym items.alone) own)
     (subst AreHeldLines (sym same) held)
     (subst (λ (ls : List (List Item)). AreKept (signs_of_lines 0 ls)) (sym same) kept)
-    (subst (λ (ls : List (List Item)). AreCalm (signs_of_lines 0 ls)) (sym same) calm)
+    (subst (λ (ls : List (List Item)). AreUtf8Nodes (signs_of_lines 0 ls)) (sym same) utf8)

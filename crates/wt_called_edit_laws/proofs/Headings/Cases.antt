@@ -1,6 +1,6 @@
 -- Worked case: the heading `== x{{t}}y ==` of the page, where `Template:T` is a word, with another letter behind its call and none before it: what is sent
 -- for it, and what it makes.
-use Rattle.std.proofs.Common.{◌≡◌, ◌<◌, inl, inr, ℕ, zero, suc, false, Some, None, List, [], ◌∷◌, arith, refl, sym, ap, ◌∙◌, subst}
+use Rattle.std.proofs.Common.{◌≡◌, ◌<◌, ℕ, zero, suc, false, Some, None, List, [], ◌∷◌, arith, refl, sym, ap, ◌∙◌, subst}
 use Rattle.wt_text_edit_laws.specs.ReadContents.{IsReadContent}
 use Rattle.wt_text_edit_laws.specs.TextBlocks.{a_heading, IsFrame}
 use Rattle.wt_text_edit_laws.specs.TypedHeadings.{Sides, spaced, heading_round}

@@ -21,10 +21,11 @@ use Rattle.wt_beside_laws.proofs.Groups.Folders.{heading_in}
 use Rattle.wt_beside_laws.proofs.Made.Closes.{content_closes}
 use Rattle.wt_called_edit_laws.specs.CalledContents.{AreHeadingItems}
 use Rattle.wt_called_edit_laws.specs.CallingBlocks.{IsContentIn, IsNewContentIn}
-use Rattle.wt_called_edit_laws.specs.Parts.{work_in}
+use Rattle.wt_called_edit_laws.specs.Parts.{left_of, work_in}
 use Rattle.wt_called_edit_laws.specs.Retyped.{AreSomeOf}
 use Rattle.wt_called_edit_laws.specs.Written.{written_items, written_calls, written_work, IsWrittenAs}
 use Rattle.wt_called_edit_laws.specs.WrittenAnew.{node_sources, StayButForOthers, IsWrittenInHeading}
+use Rattle.wt_called_edit_laws.proofs.Parts.LessBraces.{none_less}
 use Rattle.wt_called_edit_laws.proofs.MovedOuters.{calls_after}
 use Rattle.wt_called_edit_laws.proofs.Headings.Framed.{framed_written}
 use Rattle.wt_called_edit_laws.proofs.Headings.Held.{head_items}
@@ -110,7 +111,7 @@ head_over pages w q bs items s signs read was opens h e =
               content_closes s [] signs name vs (open_things name signs (each_stays (OpenAt name) pages bs (node_sources signs) e (opens name us o))) h.sealed v;
         };
         anywhere = part.anywhere;
-        left = part.left;
+        left = none_less (left_of r) (left_of line) part.left;
         undeep = λ i. part.undeep;
         work = subst (λ (es : List Entry). AreSomeOf es (work_in pages line)) (sym now_work)
             (subst (λ (es : List Entry). AreSomeOf (work_of pages (node_sources signs)) es) (sym old.work_is) (work_stays pages bs (node_sources signs) e));

@@ -1,5 +1,6 @@
 -- A heading of the page in pieces, whoever wrote it: it is a content in a folder and holds its calls.
 use Rattle.std.proofs.Common.{ℕ, false, List, [], refl, sym, ap, ◌∙◌, subst}
+use Rattle.wt_span.specs.Items.{Item}
 use Rattle.wt_tree.specs.declared.kind.Kind.TheVariants as kind
 use Rattle.wt_tree.specs.declared.edit_shape.Place.TheVariants as place
 use Rattle.wt_guards.specs.Content.{Thing}

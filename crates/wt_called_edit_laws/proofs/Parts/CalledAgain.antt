@@ -9,7 +9,7 @@ use Rattle.wt_span.specs.Lexemes.{words}
 use Rattle.wt_expand.specs.Work.{Pages, Entry, entered, begun, fetched, ended, Refused, braces_too_deep, too_large, most_cost, if_large, deep_place, cost_of, entry_refusal, refusal_from, first_refusal}
 use Rattle.wt_expand.specs.Expansion.{page_work}
 use Rattle.wt_part_laws.specs.Expanded.{GivesAnywhere}
-use Rattle.wt_text_edit_laws.specs.NoCalls.{Brace}
+use Rattle.wt_text_edit_laws.specs.NoCalls.{Brace, NonePairs}
 use Rattle.wt_text_edit_laws.specs.ReadContents.{BeginsUnclosed, IsReadContent, IsReadAnew}
 use Rattle.wt_text_edit_laws.proofs.Blocks.BlocksAgain.{led_again}
 use Rattle.wt_text_edit_laws.specs.TextBlocks.{TextBlock, source_of}
@@ -17,10 +17,11 @@ use Rattle.wt_text_edit_laws.specs.BlockSpots.{BlockSpot, spots_source, EndBefor
 use Rattle.std.specs.Str.{IsUtf8}
 use Rattle.wt_expand.specs.PageItems.{page_items}
 use Rattle.wt_text_edit_laws.specs.TextBlocks.{BeginsLine}
-use Rattle.wt_text_edit_laws.proofs.Between.LessBraces.{IsSome, all_some, some_both, pairs_some}
 use Rattle.wt_text_edit_laws.proofs.Blocks.TypedAgain.{AreReadOver, further_still_end, spot_still_ends}
 use Rattle.wt_called_edit_laws.specs.Parts.{left_of, all_left, GiveAnywhere, AreParted, AreCalled, work_in, called_work}
-use Rattle.wt_called_edit_laws.specs.Retyped.{AreSomeOf, IsPartAnew, AreWrittenAnew}
+use Rattle.wt_called_edit_laws.specs.Retyped.{AreSomeOf, IsLess, IsPartAnew, AreWrittenAnew}
+use Rattle.wt_called_edit_laws.proofs.Parts.LeftBraces.{pairs_rest}
+use Rattle.wt_called_edit_laws.proofs.Parts.LessBraces.{pairs_front, less_self, less_both}
 use Rattle.wt_called_edit_laws.proofs.Parts.Depths.{IsShallow, undeep_shallow, shallow_undeep}
 use Rattle.wt_called_edit_laws.proofs.Parts.PartByPart.{AreShallow, page_from}
 
@@ -80,22 +81,25 @@ anywhere_again pages (s ∷ ss) (r ∷ rs) t h =
     (by_text (λ j q. GivesAnywhere pages (source_of j q)) pages s r t.1 t.2 h.0 (λ n. n.anywhere), anywhere_again pages ss rs t.3 h.1)
 
 text_left : (pages : Pages) (s r : BlockSpot) → r.block ≡ s.block → (r.text ≡ s.text) ⊎ IsPartAnew pages r.block s.text r.text
-    → IsSome (left_of (source_of r.block r.text)) (left_of (source_of s.block s.text))
-text_left pages s r k o =
-    by_text (λ j q. IsSome (left_of (source_of j q)) (left_of (source_of s.block s.text))) pages s r k o (all_some (left_of (source_of s.block s.text)))
-    (λ n. subst (λ (bs : List Brace). IsSome bs (left_of (source_of s.block s.text))) (sym n.left) tt)
+    → NonePairs (left_of (source_of s.block s.text)) → IsLess (left_of (source_of r.block r.text)) (left_of (source_of s.block s.text))
+text_left pages s r k o n =
+    by_text (λ j q. IsLess (left_of (source_of j q)) (left_of (source_of s.block s.text))) pages s r k o (less_self (left_of (source_of s.block s.text)) n)
+    (λ m. subst (λ j. IsLess (left_of (source_of r.block r.text)) (left_of (source_of j s.text))) k m.left)
 
-spots_left : (pages : Pages) (ss rs : List BlockSpot) (behind : List ℕ) → AreWrittenAnew pages ss rs → IsSome (all_left rs behind) (all_left ss behind)
-spots_left pages [] [] behind t = all_some (left_of behind)
-spots_left pages [] (r ∷ rs) behind t = absurd t
-spots_left pages (s ∷ ss) [] behind t = absurd t
-spots_left pages (s ∷ ss) (r ∷ rs) behind t =
-    let front : IsSome (left_of r.before) (left_of s.before) =
-    subst (λ bs. IsSome (left_of bs) (left_of s.before)) (sym t.0) (all_some (left_of s.before)) in
-    some_both (left_of r.before) (left_of s.before)
-    (left_of (source_of r.block r.text) ++ all_left rs behind) (left_of (source_of s.block s.text) ++ all_left ss behind) front
-    (some_both (left_of (source_of r.block r.text)) (left_of (source_of s.block s.text)) (all_left rs behind) (all_left ss behind)
-    (text_left pages s r t.1 t.2) (spots_left pages ss rs behind t.3))
+spots_left : (pages : Pages) (ss rs : List BlockSpot) (behind : List ℕ) → AreWrittenAnew pages ss rs → NonePairs (all_left ss behind)
+    → IsLess (all_left rs behind) (all_left ss behind)
+spots_left pages [] [] behind t n = less_self (left_of behind) n
+spots_left pages [] (r ∷ rs) behind t n = absurd t
+spots_left pages (s ∷ ss) [] behind t n = absurd t
+spots_left pages (s ∷ ss) (r ∷ rs) behind t n =
+    let was : List Brace = left_of (source_of s.block s.text) in
+    let now : List Brace = left_of (source_of r.block r.text) in
+    let later : NonePairs (was ++ all_left ss behind) = pairs_rest (left_of s.before) (was ++ all_left ss behind) n in
+    let front : IsLess (left_of r.before) (left_of s.before) =
+    subst (λ bs. IsLess (left_of bs) (left_of s.before)) (sym t.0) (less_self (left_of s.before) (pairs_front (left_of s.before) (was ++ all_left ss behind) n)) in
+    less_both (left_of r.before) (left_of s.before) (now ++ all_left rs behind) (was ++ all_left ss behind) front
+    (less_both now was (all_left rs behind) (all_left ss behind) (text_left pages s r t.1 t.2 (pairs_front was (all_left ss behind) later))
+    (spots_left pages ss rs behind t.3 (pairs_rest was (all_left ss behind) later)) later) n
 
 pub called_again : (pages : Pages) (ss rs : List BlockSpot) (behind : List ℕ) → AreCalled pages ss behind → AreWrittenAnew pages ss rs → AreCalled pages rs behind
 called_again pages [] rs behind h t = absurd h
@@ -112,7 +116,7 @@ called_again pages (s ∷ ss) (r ∷ rs) behind h t =
       record {
         end_before = ends;
         anywhere = anywhere_again pages (s ∷ ss) (r ∷ rs) t w.anywhere;
-        apart = pairs_some (all_left (r ∷ rs) behind) (all_left (s ∷ ss) behind) (spots_left pages (s ∷ ss) (r ∷ rs) behind t) w.apart;
+        apart = let less = spots_left pages (s ∷ ss) (r ∷ rs) behind t w.apart in less.apart;
       },
     )
 

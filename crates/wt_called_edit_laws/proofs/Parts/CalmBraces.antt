@@ -11,24 +11,16 @@ use Rattle.wt_span.specs.Lexemes.{Word, Cut, cuts, closed, words, form_at}
 use Rattle.wt_span.specs.Braces.{Member, lexeme, left_over, reduced_onto, reduced}
 use Rattle.wt_lex.proofs.AllForms.{form_fits}
 use Rattle.wt_expand.specs.PageItems.{page_items}
-use Rattle.wt_text_edit_laws.specs.NoCalls.{Brace, opening, closing, braces, CallsNothing}
+use Rattle.wt_text_edit_laws.specs.NoCalls.{Brace, opening, closing, braces, CallsNothing, IsSome, braces_of}
 use Rattle.wt_text_edit_laws.proofs.Texts.TypedText.{HaveNoClosers}
 use Rattle.wt_text_edit_laws.proofs.Between.Fronts.{first_items, items_from, first_from, byte_from, words_by, words_from}
 use Rattle.wt_text_edit_laws.proofs.Between.BraceWords.{AreBraces, two_braces, signs_of, run_here, signs_split, CallNothing}
-use Rattle.wt_text_edit_laws.proofs.Between.LessBraces.{IsSome, some_more, some_both, braces_of}
+use Rattle.wt_text_edit_laws.proofs.Between.LessBraces.{some_more, some_both, some_some}
 use Rattle.wt_text_edit_laws.proofs.Between.NoCalls.{AreUnopened, closes_nothing, left_unopened, calm_words}
 use Rattle.wt_called_edit_laws.specs.Parts.{left_in, left_of}
 use Rattle.wt_called_edit_laws.proofs.Parts.LeftBraces.{left_append}
 
--- ---- some of some
-
-pub some_some : (xs ys zs : List Brace) → IsSome xs ys → IsSome ys zs → IsSome xs zs
-some_some [] ys zs h g = tt
-some_some (x ∷ xs) [] zs h g = absurd h
-some_some (x ∷ xs) (y ∷ ys) [] h g = absurd g
-some_some (x ∷ xs) (y ∷ ys) (z ∷ zs) h (inr g) = inr (some_some (x ∷ xs) (y ∷ ys) zs h g)
-some_some (x ∷ xs) (y ∷ ys) (z ∷ zs) (inl h) (inl g) = inl (h.0 ∙ g.0, some_some xs ys zs h.1 g.1)
-some_some (x ∷ xs) (y ∷ ys) (z ∷ zs) (inr h) (inl g) = inr (some_some (x ∷ xs) ys zs h g.1)
+-- ---- some of them
 
 some_front : (xs ys zs : List Brace) → IsSome xs ys → IsSome xs (ys ++ zs)
 some_front xs ys zs h = subst (λ us. IsSome us (ys ++ zs)) (append-nil xs) (some_both xs ys [] zs h tt)
@@ -109,7 +101,7 @@ runs_of bs =
 
 -- ---- what is left of them
 
-pushed : (m : Member) (before : List Member) → left_in (reverse (m ∷ before)) ≡ left_in (reverse before) ++ left_in (m ∷ [])
+pub pushed : (m : Member) (before : List Member) → left_in (reverse (m ∷ before)) ≡ left_in (reverse before) ++ left_in (m ∷ [])
 pushed m before = ap left_in (reverse-append (m ∷ []) before) ∙ left_append (reverse before) (m ∷ [])
 
 push : (m : Member) (before : List Member) (bs cs : List Brace) → IsSome (left_in (m ∷ [])) cs → IsSome (left_in (reverse before)) bs

@@ -2,7 +2,7 @@
 use Rattle.std.proofs.Common.{arith, ◌≡◌, ℕ, ◌+◌, List, [], ◌∷◌, ◌++◌, length, sym, ap, subst}
 use Rattle.wt_expand.specs.PageItems.{page_items}
 use Rattle.wt_expand.specs.Work.{Pages}
-use Rattle.wt_text_edit_laws.specs.NoCalls.{Brace, opening, closing, NoneClose, NonePairs, CallsNothing}
+use Rattle.wt_text_edit_laws.specs.NoCalls.{Brace, opening, closing, NoneClose, NonePairs, CallsNothing, IsSome, braces_of}
 use Rattle.wt_expand.specs.PageCalls.{expanded_page}
 use Rattle.wt_text_edit_laws.specs.Contents.{IsContent}
 use Rattle.wt_text_edit_laws.specs.TextBlocks.{TextBlock, source_of, block_items}
@@ -12,7 +12,7 @@ use Rattle.wt_span.specs.declared.form.Mode.TheVariants.{Page}
 use Rattle.wt_span.specs.Lexemes.{words}
 use Rattle.wt_span.specs.Braces.{reduced}
 use Rattle.wt_text_edit_laws.specs.BlockSpots.{BlockSpot, AsAWhole, IsRead, AreReadAfter, AreRead, AreContents}
-use Rattle.wt_text_edit_laws.proofs.Between.LessBraces.{IsSome, some_both, pairs_some, braces_of}
+use Rattle.wt_text_edit_laws.proofs.Between.LessBraces.{some_both, pairs_some}
 use Rattle.wt_text_edit_laws.proofs.Between.NoCalls.{calm_reduced}
 use Rattle.wt_text_edit_laws.proofs.Blocks.BlockReading.{read_spot, read_spots, spots_items, items_of_parts}
 use Rattle.wt_text_edit_laws.proofs.Blocks.TypedBraces.{braces_split}

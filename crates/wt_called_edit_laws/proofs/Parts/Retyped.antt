@@ -6,19 +6,21 @@ use Rattle.wt_span.specs.Braces.{reduced}
 use Rattle.wt_expand.specs.PageItems.{page_items}
 use Rattle.wt_expand.specs.Work.{Pages, Entry}
 use Rattle.wt_part_laws.proofs.ExpandedBoth.{plain_anywhere}
-use Rattle.wt_text_edit_laws.specs.NoCalls.{Brace, NonePairs, CallsNothing}
+use Rattle.wt_text_edit_laws.specs.NoCalls.{Brace, CallsNothing, braces_of, IsSome, AreFewer}
+use Rattle.wt_text_edit_laws.proofs.Between.LessBraces.{pairs_some, none_of, fewer_calm}
 use Rattle.wt_text_edit_laws.specs.TextBlocks.{TextBlock, source_of, block_items}
-use Rattle.wt_text_edit_laws.specs.Contents.{IsContent, IsFirmContent, IsNewContent}
+use Rattle.wt_text_edit_laws.specs.Contents.{IsContent, IsNewContent}
 use Rattle.wt_text_edit_laws.specs.BlockSpots.{BlockSpot, spots_source, SameRound, AreContents}
-use Rattle.wt_text_edit_laws.proofs.Between.LessBraces.{IsSome, braces_of}
 use Rattle.wt_text_edit_laws.proofs.Between.NoCalls.{calm_reduced}
 use Rattle.wt_text_edit_laws.proofs.Texts.TypedText.{AreLexemes}
 use Rattle.wt_text_edit_laws.proofs.Blocks.BlockReading.{read_anew}
 use Rattle.wt_text_edit_laws.proofs.Blocks.Contents.{new_contents}
-use Rattle.wt_text_edit_laws.proofs.Blocks.TypedBraces.{AreNewOver, firm_unpaired}
+use Rattle.wt_text_edit_laws.proofs.Blocks.TypedBraces.{AreNewOver, new_calm}
 use Rattle.wt_called_edit_laws.specs.Parts.{left_of, AreCalled, work_in, IsByParts}
-use Rattle.wt_called_edit_laws.specs.Retyped.{AreRetyped, AreSomeOf, IsPartAnew, AreWrittenAnew, IsExpandedAgain}
+use Rattle.wt_called_edit_laws.specs.Retyped.{AreRetyped, AreSomeOf, IsLess, IsPartAnew, AreWrittenAnew, IsExpandedAgain}
 use Rattle.wt_called_edit_laws.proofs.Parts.CalmBraces.{calm_left}
+use Rattle.wt_called_edit_laws.proofs.Parts.KeptBraces.{some_has, calm_has}
+use Rattle.wt_called_edit_laws.proofs.Parts.LessBraces.{none_less}
 use Rattle.wt_called_edit_laws.proofs.Parts.CalledAgain.{called_again, less_work, work_of, still_unrefused}
 use Rattle.wt_called_edit_laws.proofs.Parts.Depths.{calm_shallow, shallow_undeep}
 use Rattle.wt_called_edit_laws.proofs.Parts.PartByPart.{items_of, calm_gives, lexemes_plain, page_from}
@@ -45,33 +47,36 @@ expanded_again pages ss rs behind h t =
 pub calm_lexemes : (k : TextBlock) (q : List ℕ) → IsContent k q → CallsNothing (block_items k q) → AreLexemes (reduced (words Page (source_of k q)))
 calm_lexemes k q h c = calm_reduced (source_of k q) (subst CallsNothing (sym h.unended) c)
 
--- in one that was written no two braces are side by side
-firm_braces : (k : TextBlock) (q : List ℕ) → IsFirmContent k q → braces_of (block_items k q) ≡ []
-firm_braces k q h = firm_unpaired k q h
+-- what is left of its braces is no more than of the old one's
+new_left : (k : TextBlock) (was now : List ℕ) → IsNewContent k was now → IsLess (left_of (source_of k now)) (left_of (source_of k was))
+new_left k was now n = by n.fewer
+  where
+    new : List ℕ
+    new = source_of k now
 
-pub firm_calm : (k : TextBlock) (q : List ℕ) → IsFirmContent k q → CallsNothing (block_items k q)
-firm_calm k q h = subst NonePairs (sym (firm_braces k q h)) tt
+    old : List ℕ
+    old = source_of k was
 
-none_of : (xs : List Brace) → IsSome xs [] → xs ≡ []
-none_of [] h = refl
-none_of (x ∷ xs) h = absurd h
+    calm : CallsNothing (page_items new)
+    calm = fewer_calm (page_items new) (page_items old) n.fewer
 
-firm_left : (k : TextBlock) (q : List ℕ) → IsFirmContent k q → left_of (source_of k q) ≡ []
-firm_left k q t =
-    let items : page_items (source_of k q) ≡ block_items k q = t.content.unended in
-    none_of (left_of (source_of k q))
-    (subst (λ bs. IsSome (left_of (source_of k q)) bs) (ap braces_of items ∙ firm_braces k q t)
-    (calm_left (source_of k q) (subst CallsNothing (sym items) (firm_calm k q t))))
+    by : AreFewer (page_items (source_of k now)) (page_items (source_of k was)) → IsLess (left_of (source_of k now)) (left_of (source_of k was))
+    by (inl none) = none_less (left_of new) (left_of old) (none_of (left_of new) (subst (λ (bs : List Brace). IsSome (left_of new) bs) none (calm_left new calm)))
+    by (inr fewer) = record {
+      apart = pairs_some (left_of new) (braces_of (page_items new)) (calm_left new calm) calm;
+      some = λ x e. calm_has x old fewer.0
+          (some_has x (braces_of (page_items new)) (braces_of (page_items old)) fewer.1 (some_has x (left_of new) (braces_of (page_items new)) (calm_left new calm) e));
+    }
 
 pub part_anew : (pages : Pages) (k : TextBlock) (was now : List ℕ) → IsNewContent k was now → IsPartAnew pages k was now
 part_anew pages k was now n =
     let bs : List ℕ = source_of k now in
-    let own : AreLexemes (reduced (words Page bs)) = calm_lexemes k now n.firm.content (firm_calm k now n.firm) in
+    let own : AreLexemes (reduced (words Page bs)) = calm_lexemes k now n.firm.content (new_calm k was now n) in
     let gives = calm_gives pages bs own in
     record {
       read = read_anew k was now n;
       anywhere = plain_anywhere pages bs (lexemes_plain (reduced (words Page bs)) own);
-      left = firm_left k now n.firm;
+      left = new_left k was now n;
       undeep = λ d. shallow_undeep bs (calm_shallow (words Page bs) own);
       work = subst (λ (ds : List Entry). AreSomeOf ds (work_in pages (source_of k was))) (sym gives.work_is) tt;
     }

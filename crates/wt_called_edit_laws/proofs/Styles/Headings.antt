@@ -28,6 +28,7 @@ use Rattle.wt_beside_laws.specs.Called.{AllSeenIn, items_with, owns_in}
 use Rattle.wt_beside_laws.specs.Stood.{things}
 use Rattle.wt_beside_laws.specs.Styled.{StyledContent, signs_in}
 use Rattle.wt_beside_laws.specs.StyledCalls.{IsStyledCalledHeading, styled_with}
+use Rattle.wt_called_edit_laws.proofs.Parts.LessBraces.{none_less}
 use Rattle.wt_called_edit_laws.proofs.Headings.Framed.{framed_written}
 use Rattle.wt_called_edit_laws.proofs.Headings.Held.{head_holds}
 use Rattle.wt_called_edit_laws.proofs.Headings.Letters.{a_head, b_head}
@@ -49,7 +50,7 @@ use Rattle.wt_called_edit_laws.specs.CallingBlocks.{IsContentIn, IsNewContentIn}
 use Rattle.wt_called_edit_laws.specs.CallingEdits.{TakesLetters}
 use Rattle.wt_called_edit_laws.specs.InPieces.{AreInPieces, pieces_source}
 use Rattle.wt_called_edit_laws.specs.PageThings.{ArePageThings, ThingsStay, thing_sources}
-use Rattle.wt_called_edit_laws.specs.Parts.{work_in}
+use Rattle.wt_called_edit_laws.specs.Parts.{left_of, work_in}
 use Rattle.wt_called_edit_laws.specs.Retyped.{AreSomeOf}
 use Rattle.wt_called_edit_laws.specs.WholeContents.{IsWholeIn}
 use Rattle.wt_called_edit_laws.specs.Written.{IsWrittenAs, written_calls, written_items, written_work}
@@ -150,7 +151,7 @@ styled_head_over pages w q bs items s t fs read was opens h a e =
               (all_sealed pages signs h.each) v;
         };
         anywhere = part.anywhere;
-        left = part.left;
+        left = none_less (left_of r) (left_of line) part.left;
         undeep = λ i. part.undeep;
         work = subst (λ (es : List Entry). AreSomeOf es (work_in pages line)) (sym now_work)
             (subst (λ (es : List Entry). AreSomeOf (work_of pages (thing_sources fs)) es) (sym old.work_is) (work_stays pages bs (thing_sources fs) e));

@@ -33,6 +33,7 @@ use Rattle.wt_beside_laws.specs.NodeItems.{node_items}
 use Rattle.wt_beside_laws.specs.Stood.{things}
 use Rattle.wt_beside_laws.specs.Styled.{StyledContent, delimiter, finished, mark_source, sign, signs_before, signs_in, styled}
 use Rattle.wt_beside_laws.specs.StyledNodes.{IsPut}
+use Rattle.wt_called_edit_laws.proofs.Parts.LessBraces.{none_less}
 use Rattle.wt_called_edit_laws.proofs.MovedOuters.{calls_after}
 use Rattle.wt_called_edit_laws.proofs.Styles.Put.{put_open, put_outer, put_source, put_work}
 use Rattle.wt_called_edit_laws.proofs.Styles.Things.{AreAmongPut, AreStyledThings}
@@ -49,7 +50,7 @@ use Rattle.wt_called_edit_laws.specs.CallingEdits.{TakesLetters}
 use Rattle.wt_called_edit_laws.specs.InCells.{AreTextLines}
 use Rattle.wt_called_edit_laws.specs.InPieces.{AreInPieces, pieces_source}
 use Rattle.wt_called_edit_laws.specs.PageThings.{ArePageThings, ThingsStay, thing_sources}
-use Rattle.wt_called_edit_laws.specs.Parts.{work_in}
+use Rattle.wt_called_edit_laws.specs.Parts.{left_of, work_in}
 use Rattle.wt_called_edit_laws.specs.Retyped.{AreSomeOf}
 use Rattle.wt_called_edit_laws.specs.Written.{AreReadThings, IsReadThing, IsWrittenAs, written_calls, written_items, written_work}
 use Rattle.wt_called_edit_laws.specs.WrittenAnew.{IsWrittenBeside, StayButForOthers, node_sources}
@@ -204,7 +205,7 @@ styled_over pages q bs s t fs old was_work opens h a e =
               (all_sealed pages signs h.each) v;
         };
         anywhere = part.anywhere;
-        left = part.left;
+        left = none_less (left_of r) (left_of q) part.left;
         undeep = λ i. part.undeep;
         work = subst (λ (es : List Entry). AreSomeOf es (work_in pages q)) (sym now_work)
             (subst (λ (es : List Entry). AreSomeOf (work_of pages (thing_sources fs)) es) (sym was_work) (work_stays pages bs (thing_sources fs) e));

@@ -50,6 +50,7 @@ use Rattle.wt_text_edit_laws.specs.TypedHeadings.{Sides, opening, closing_items,
 use Rattle.wt_text_edit_laws.proofs.Blocks.BlockLeaves.{items_of_page}
 use Rattle.wt_text_edit_laws.proofs.Blocks.OwnContents.{content_own}
 use Rattle.wt_text_edit_laws.proofs.Texts.TypedShown.{chars_of_page, both_of_page}
+use Rattle.wt_beside_laws.specs.RoundCalls.{AreShutCalls}
 use Rattle.wt_beside_laws.specs.Given.{GivesSigns}
 use Rattle.wt_called_edit_laws.specs.CalledBlocks.{counted}
 use Rattle.wt_called_edit_laws.specs.CalledContents.{items_round, tree_round}

@@ -106,8 +106,8 @@ call_shut_parts j (node t ∷ ps) h = (not_page j t h.0, call_shut_parts j ps h.
         let no : false ≡ true = sym none ∙ of_page in absurd (cc)
 
 -- nor is a node round calls by itself
-pub round_shut_parts : (own : List Item) → IsRoundCalls own → AreShutParts (line_parts own)
-round_shut_parts own r = subst AreShutParts (sym r.is) ((λ e. let no : true ≡ false = sym e ∙ r.called in absurd (cc)), tt)
+pub round_shut_parts : (mine : List Item) → IsRoundCalls mine → AreShutParts (line_parts mine)
+round_shut_parts mine r = subst AreShutParts (sym r.is) ((λ e. let no : true ≡ false = sym e ∙ r.called in absurd (cc)), tt)
 
 pub own_shut : (pages : Pages) (i : ℕ) (t : Thing) → IsOfFolder t.role pages t → IsShut t → AreShutParts (line_parts (numbered i (page_stretches pages t.source)))
 own_shut pages i t h s = elim (folder_case t.role pages t h) [
@@ -220,8 +220,8 @@ later_call : (i j : ℕ) → j < i → (i == j) ≡ false
 later_call i j l = grind (arith, nat_tests)
 
 -- what is in a node round calls are its items
-round_items_of : (j : ℕ) (own : List Item) → IsRoundCalls own → of_call j (held_parts (line_parts own)) ≡ of_call j own
-round_items_of j own r =
+round_items_of : (j : ℕ) (mine : List Item) → IsRoundCalls mine → of_call j (held_parts (line_parts mine)) ≡ of_call j mine
+round_items_of j mine r =
     ap (λ (ps : List Part). of_call j (held_parts ps)) r.is ∙ ap (of_call j) (append-nil (tree_items r.tree) ∙ r.whole)
 
 pub thing_none : (pages : Pages) (i j : ℕ) (t : Thing) → IsOfFolder t.role pages t → j < i → of_call j (held_parts (line_parts (part_items pages i t.source))) ≡ []

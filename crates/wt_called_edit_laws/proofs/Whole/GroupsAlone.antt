@@ -164,9 +164,9 @@ groups_node xs t qs k h =
     subst (λ (ts : List ItemTree). AreGroups xs (call_pieces ts)) (sym (node_first t qs))
     (subst (λ (c : Option ℕ). AreGroups xs (piece_before c t (call_pieces (children qs)))) (sym (own_first t None k)) h)
 
-pub groups_round : (xs own : List Item) (qs : List Part) → IsRoundCalls own → AreGroups xs (call_pieces (children qs))
-    → AreGroups xs (call_pieces (children (line_parts own ++ qs)))
-groups_round xs own qs r h =
+pub groups_round : (xs mine : List Item) (qs : List Part) → IsRoundCalls mine → AreGroups xs (call_pieces (children qs))
+    → AreGroups xs (call_pieces (children (line_parts mine ++ qs)))
+groups_round xs mine qs r h =
     subst (λ (ps : List Part). AreGroups xs (call_pieces (children (ps ++ qs)))) (sym r.is) (groups_node xs r.tree qs (inr (deep_round r.tree r.deep)) h)
 
 pub groups_page : (xs : List Item) (ps qs : List Part) → ArePageParts ps → AreGroups xs (call_pieces (children qs))

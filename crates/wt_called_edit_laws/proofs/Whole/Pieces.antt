@@ -149,7 +149,7 @@ last_piece (given j t ts) h o =
     ap (last_of o) g.is ∙ last_within j (call_of g.first) g.others g.of_call.1 g.of_call.0
 
 -- a node of the page is what it is by itself
-own_is : (calls : List OuterCall) (t : ItemTree) → IsOwn t → cut_texts (node_in calls t) ≡ placeless (standing 0 [] t)
+pub own_is : (calls : List OuterCall) (t : ItemTree) → IsOwn t → cut_texts (node_in calls t) ≡ placeless (standing 0 [] t)
 own_is calls t h =
     ap cut_texts (own_node_in calls t h ∙ sym (numbers_gone 0 (placed [] t))) ∙ sym (texts_same (with_numbers 0 (placed [] t)))
 
@@ -158,7 +158,7 @@ some_in : (t : ItemTree) → IsOwn t ⊎ IsRoundNode t → list_any is_page (tre
 some_in t (inl n) = has_page t n.has_items
 some_in t (inr r) = round_some t r
 
-node_holds : (t : ItemTree) → IsOwn t ⊎ IsRoundNode t → HoldsItsCalls t
+pub node_holds : (t : ItemTree) → IsOwn t ⊎ IsRoundNode t → HoldsItsCalls t
 node_holds t h = record { some = some_in t h; clean = piece_clean None None t h }
 
 none_some : (j : ℕ) → Some j ≡ None → ⊥

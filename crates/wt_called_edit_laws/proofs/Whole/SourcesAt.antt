@@ -1,6 +1,5 @@
 -- Calls among those of a page, by their sources.
-use Rattle.std.proofs.Common.{arith, ◌≡◌, ℕ, zero, suc, ◌+◌, Some, Option, List, [], ◌∷◌, ◌++◌, length, refl, sym, ap, ◌∙◌, subst}
-use Rattle.std.specs.Prelude.{slice_get}
+use Rattle.std.proofs.Common.{arith, ◌≡◌, ℕ, zero, suc, ◌+◌, Option, List, [], ◌∷◌, ◌++◌, length, refl, sym, ap, ◌∙◌, subst}
 use Rattle.wt_span.specs.Cuts.{source_of_call}
 use Rattle.wt_span.specs.Origins.{OuterCall}
 use Rattle.wt_part_laws.specs.MovedCalls.{IsMoved, AreMoved}

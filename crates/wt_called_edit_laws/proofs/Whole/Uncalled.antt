@@ -78,10 +78,10 @@ own_kinds : (ts : List ItemTree) → AllNodes OwnKind ts → OwnKinds (call_piec
 own_kinds [] h = tt
 own_kinds (t ∷ ts) h = kinds_with (first_of (tree_items t) None) t (call_pieces ts) h.0 (own_kinds ts h.1)
 
-none_some : (j : ℕ) → Some j ≡ None → ⊥
+pub none_some : (j : ℕ) → Some j ≡ None → ⊥
 none_some j e = cc
 
-first_given : (j : ℕ) (t : ItemTree) → IsOfCall j t → first_of (tree_items t) None ≡ Some j
+pub first_given : (j : ℕ) (t : ItemTree) → IsOfCall j t → first_of (tree_items t) None ≡ Some j
 first_given j t h = ap (λ (xs : List Item). first_of xs None) h.is ∙ h.of_call.0
 
 shut_kind : (t : ItemTree) → list_all is_page (tree_items t) ≡ true → IsShutNode t → IsOwnKind t
@@ -114,7 +114,7 @@ part_kinds n calls xs (t ∷ ts) s h = (part_kind n calls xs t s.0 h.0, part_kin
 
 -- ---- some piece is the page's
 
-abbrev SomeOwn : List CallPiece → Type 0
+abbrev pub SomeOwn : List CallPiece → Type 0
 SomeOwn [] = ⊥
 SomeOwn (own t ∷ ps) = Unit {0}
 SomeOwn (given j t ts ∷ ps) = SomeOwn ps
@@ -136,7 +136,7 @@ held_both [] us = refl
 held_both (t ∷ ts) us =
     ap (λ (xs : List Item). tree_items t ++ xs) (held_both ts us) ∙ sym (append_assoc (tree_items t) (held_by_all (forest ts)) (held_by_all (forest us)))
 
-some_own : (ps : List CallPiece) → ArePieces ps → list_any is_page (held_by_all (forest (trees_of ps))) ≡ true → SomeOwn ps
+pub some_own : (ps : List CallPiece) → ArePieces ps → list_any is_page (held_by_all (forest (trees_of ps))) ≡ true → SomeOwn ps
 some_own [] h e = let no : false ≡ true = e in absurd (cc)
 some_own (own t ∷ ps) h e = tt
 some_own (given j t ts ∷ ps) h e =

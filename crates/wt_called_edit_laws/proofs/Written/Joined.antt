@@ -12,8 +12,8 @@ use Rattle.wt_part_laws.specs.Apart.{AreMet}
 use Rattle.wt_part_laws.specs.Expanded.{moved_call, moved_span, calls_in, AreParts}
 use Rattle.wt_part_laws.proofs.ExpandedBoth.{plain_anywhere, both_anywhere}
 use Rattle.wt_part_laws.specs.MovedCalls.{AreMoved}
-use Rattle.wt_text_edit_laws.specs.NoCalls.{Brace, NonePairs, CallsNothing, AreUnbraced}
-use Rattle.wt_text_edit_laws.proofs.Between.LessBraces.{IsSome, none_unbraced}
+use Rattle.wt_text_edit_laws.specs.NoCalls.{Brace, NonePairs, CallsNothing, AreUnbraced, IsSome}
+use Rattle.wt_text_edit_laws.proofs.Between.LessBraces.{none_unbraced, none_of}
 use Rattle.wt_text_edit_laws.proofs.Between.NoCalls.{calm_reduced}
 use Rattle.wt_text_edit_laws.proofs.Texts.TypedText.{AreLexemes}
 use Rattle.wt_called_edit_laws.specs.Parts.{left_of}
@@ -54,10 +54,6 @@ both_written pages p q xs ys cs ds es fs m a b =
     }
 
 -- ---- a text without braces
-
-none_of : (xs : List Brace) → IsSome xs [] → xs ≡ []
-none_of [] h = refl
-none_of (x ∷ xs) h = absurd h
 
 unbraced_calm : (bs : List ℕ) → AreUnbraced (page_items bs) → CallsNothing (page_items bs)
 unbraced_calm bs u = subst NonePairs (sym (none_unbraced (page_items bs) u)) tt

@@ -55,12 +55,12 @@ pub held_same : (source : List ℕ) → IsHeldInLine source → node_items sourc
 held_same source (inl k) = kept_node source k.0
 held_same source (inr (inl c)) =
     subst (λ bs. node_items bs ≡ page_items bs) (sym c.is) (comment_node c.others c.comment ∙ sym (comment_alone c.others c.comment))
-held_same source (inr (inr h)) = read_node source h
+held_same source (inr (inr h)) = read_node source h.0
 
 held_alone : (source : List ℕ) → IsHeldInLine source → InLineAs source (page_items source)
 held_alone source (inl k) = kept_in source k.0 k.1
 held_alone source (inr (inl c)) = source_in source c
-held_alone source (inr (inr h)) = read_in source h
+held_alone source (inr (inr h)) = λ rest xs r. read_in source rest xs h.0 (inl h.1) r
 
 pub held_in : (source : List ℕ) → IsHeldInLine source → InLineAs source (node_items source)
 held_in source h = subst (InLineAs source) (sym (held_same source h)) (held_alone source h)
@@ -91,7 +91,7 @@ kept_begins source h o rest =
 own_begins : (source : List ℕ) → IsHeldInLine source → FirstOpens (map glyph_of (page_items source)) → (rest : List ℕ) → BeginsUncommented (source ++ rest)
 own_begins source (inl k) o rest = kept_begins source k.0 o rest
 own_begins source (inr (inl c)) o rest = absurd (subst (λ xs. FirstOpens (map glyph_of xs)) (ap page_items c.is ∙ comment_alone c.others c.comment) o)
-own_begins source (inr (inr h)) o rest = shown_begins (source ++ rest) (read_shown source h rest)
+own_begins source (inr (inr h)) o rest = shown_begins (source ++ rest) (read_shown source h.0 rest)
 
 pub held_begins : (source : List ℕ) → IsHeldInLine source → FirstOpens (map glyph_of (node_items source)) → (rest : List ℕ) → BeginsUncommented (source ++ rest)
 held_begins source h o rest = own_begins source h (subst (λ xs. FirstOpens (map glyph_of xs)) (held_same source h) o) rest

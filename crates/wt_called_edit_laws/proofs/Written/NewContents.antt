@@ -41,10 +41,11 @@ use Rattle.wt_beside_laws.proofs.Groups.Folders.{called_in}
 use Rattle.wt_called_edit_laws.specs.CalledContents.{AreTextItems}
 use Rattle.wt_called_edit_laws.specs.CallingBlocks.{IsContentIn, IsNewContentIn}
 use Rattle.wt_called_edit_laws.specs.InCells.{AreTextLines}
-use Rattle.wt_called_edit_laws.specs.Parts.{work_in}
+use Rattle.wt_called_edit_laws.specs.Parts.{left_of, work_in}
 use Rattle.wt_called_edit_laws.specs.Retyped.{AreSomeOf}
 use Rattle.wt_called_edit_laws.specs.Written.{IsCallSource, IsReadThing, AreReadThings, written_calls, written_work}
 use Rattle.wt_called_edit_laws.specs.WrittenAnew.{node_sources, AreUtf8, StayButForOthers, IsWrittenBeside}
+use Rattle.wt_called_edit_laws.proofs.Parts.LessBraces.{none_less}
 use Rattle.wt_called_edit_laws.proofs.MovedOuters.{calls_after}
 use Rattle.wt_called_edit_laws.proofs.Written.Held.{written_gives}
 use Rattle.wt_called_edit_laws.proofs.Written.Levels.{unmarked}
@@ -311,7 +312,7 @@ written_over pages q bs s signs old was_work opens h e =
           closes = λ name us vs o v. closes_so s bs signs pages e h name vs (opens name us o) v;
         };
         anywhere = part.anywhere;
-        left = part.left;
+        left = none_less (left_of r) (left_of q) part.left;
         undeep = λ i. part.undeep;
         work = subst (λ (es : List Entry). AreSomeOf es (work_in pages q)) (sym now_work)
             (subst (λ (es : List Entry). AreSomeOf (work_of pages (node_sources signs)) es) (sym was_work) (work_stays pages bs (node_sources signs) e));

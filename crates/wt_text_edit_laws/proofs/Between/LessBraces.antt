@@ -9,7 +9,7 @@ use Rattle.wt_span.specs.Bytes.{begins}
 use Rattle.wt_span.specs.Items.{Item, char, whole, source, sources, sign, is_mark_form}
 use Rattle.wt_expand.specs.PageItems.{page_items}
 use Rattle.wt_expand.proofs.PageLaws.{page_sources}
-use Rattle.wt_text_edit_laws.specs.NoCalls.{Brace, opening, closing, braces, NoneClose, NonePairs, is_brace, AreUnbraced}
+use Rattle.wt_text_edit_laws.specs.NoCalls.{Brace, opening, closing, braces, NoneClose, NonePairs, CallsNothing, AreUnpaired, braces_of, IsSome, AreFewer, is_brace, AreUnbraced}
 use Rattle.wt_text_edit_laws.specs.TypedPages.{IsTypedPage}
 use Rattle.wt_text_edit_laws.specs.TextBetween.{EndsBy, is_end, AreEnded}
 use Rattle.wt_text_edit_laws.proofs.Prose.InFront.{spelled_unbraced}
@@ -18,11 +18,6 @@ use Rattle.wt_text_edit_laws.proofs.Between.LineComments.{ends_behind}
 use Rattle.wt_text_edit_laws.proofs.Between.BraceWords.{none_pair}
 
 -- ---- some of them, in order
-
-abbrev pub IsSome : List Brace → List Brace → Type 0
-IsSome [] ys = Unit {0}
-IsSome (x ∷ xs) [] = ⊥
-IsSome (x ∷ xs) (y ∷ ys) = ((x ≡ y) × IsSome xs ys) ⊎ IsSome (x ∷ xs) ys
 
 pub all_some : (xs : List Brace) → IsSome xs xs
 all_some [] = tt
@@ -63,6 +58,18 @@ pairs_some (x ∷ xs) [] h g = absurd h
 pairs_some (opening ∷ xs) (y ∷ ys) (inl h) g = none_some xs ys h.1 (subst (λ (z : Brace). NonePairs (z ∷ ys)) (sym h.0) g)
 pairs_some (closing ∷ xs) (y ∷ ys) (inl h) g = pairs_some xs ys h.1 (pairs_behind_first y ys g)
 pairs_some (x ∷ xs) (y ∷ ys) (inr h) g = pairs_some (x ∷ xs) ys h (pairs_behind_first y ys g)
+
+pub some_some : (xs ys zs : List Brace) → IsSome xs ys → IsSome ys zs → IsSome xs zs
+some_some [] ys zs h g = tt
+some_some (x ∷ xs) [] zs h g = absurd h
+some_some (x ∷ xs) (y ∷ ys) [] h g = absurd g
+some_some (x ∷ xs) (y ∷ ys) (z ∷ zs) h (inr g) = inr (some_some (x ∷ xs) (y ∷ ys) zs h g)
+some_some (x ∷ xs) (y ∷ ys) (z ∷ zs) (inl h) (inl g) = inl (h.0 ∙ g.0, some_some xs ys zs h.1 g.1)
+some_some (x ∷ xs) (y ∷ ys) (z ∷ zs) (inr h) (inl g) = inr (some_some (x ∷ xs) ys zs h g.1)
+
+pub none_of : (xs : List Brace) → IsSome xs [] → xs ≡ []
+none_of [] h = refl
+none_of (x ∷ xs) h = absurd h
 
 -- ---- one sign before others
 
@@ -139,9 +146,6 @@ braces_before (s ∷ r ∷ ss) (t ∷ ys) h =
 
 -- ---- items
 
-abbrev pub braces_of : List Item → List Brace
-braces_of xs = braces (map sign xs)
-
 pub items_behind_end : (xs ys : List Item) → EndsUnbraced (map sign xs) → braces_of (xs ++ ys) ≡ braces_of xs ++ braces_of ys
 items_behind_end xs ys h = ap braces (map-append sign xs ys) ∙ braces_behind (map sign xs) (map sign ys) h
 
@@ -155,7 +159,25 @@ whole_sign f = by (is_mark_form f)
     by true = refl
     by false = refl
 
--- those without braces
+-- ---- fewer
+
+-- where they are, nothing is called
+pub fewer_calm : (now was : List Item) → AreFewer now was → CallsNothing now
+fewer_calm now was (inl h) = subst NonePairs (sym h) tt
+fewer_calm now was (inr h) = pairs_some (braces_of now) (braces_of was) h.1 h.0
+
+pub fewer_some : (now was : List Item) → AreFewer now was → IsSome (braces_of now) (braces_of was)
+fewer_some now was (inl h) = subst (λ (bs : List Brace). IsSome bs (braces_of was)) (sym h) tt
+fewer_some now was (inr h) = h.1
+
+-- fewer than those that are fewer
+pub fewer_again : (was now last : List Item) → AreFewer now was → AreFewer last now → AreFewer last was
+fewer_again was now last h (inl g) = inl g
+fewer_again was now last (inl h) (inr g) = inl (none_of (braces_of last) (subst (IsSome (braces_of last)) h g.1))
+fewer_again was now last (inr h) (inr g) = inr (h.0, some_some (braces_of last) (braces_of now) (braces_of was) g.1 h.1)
+
+-- ---- items without braces
+
 pub none_unbraced : (xs : List Item) → AreUnbraced xs → braces_of xs ≡ []
 none_unbraced [] h = refl
 none_unbraced (char o b ∷ xs) h = no_brace b (map sign xs) h.0 ∙ none_unbraced xs h.1

@@ -14,7 +14,7 @@ use Rattle.wt_part_laws.specs.Lexer.{lexer}
 use Rattle.wt_part_laws.specs.Scans.{after_all}
 use Rattle.wt_text_edit_laws.specs.LonePages.{of_items}
 use Rattle.wt_text_edit_laws.specs.TypedPages.{IsTypedPage}
-use Rattle.wt_text_edit_laws.specs.NoCalls.{Brace, NonePairs, CallsNothing, AreUnbraced}
+use Rattle.wt_text_edit_laws.specs.NoCalls.{Brace, NonePairs, CallsNothing, AreUnbraced, braces_of}
 use Rattle.wt_text_edit_laws.specs.TextBetween.{BeginsShown, StandsBefore, StandsBehind}
 use Rattle.wt_text_edit_laws.proofs.Prose.InFront.{Reads}
 use Rattle.wt_text_edit_laws.proofs.Prose.ProseReading.{page_front}
@@ -23,7 +23,7 @@ use Rattle.wt_text_edit_laws.proofs.Between.Fronts.{ReadsAfter, reads_after, pag
 use Rattle.wt_text_edit_laws.specs.ReadContents.{begins_shown}
 use Rattle.wt_text_edit_laws.proofs.Between.Shown.{shown_before, shown_lines, shown_reads}
 use Rattle.wt_text_edit_laws.proofs.Between.NoCalls.{calm_expanded, calm_unrefused}
-use Rattle.wt_text_edit_laws.proofs.Between.LessBraces.{braces_of, items_behind_end, none_unbraced, unbraced_ends, page_unbraced, ended_unbraced}
+use Rattle.wt_text_edit_laws.proofs.Between.LessBraces.{items_behind_end, none_unbraced, unbraced_ends, page_unbraced, ended_unbraced}
 
 -- its first line is text
 pub typed_lines : (q : List ℕ) → IsTypedPage q → All (λ l. line_kind 0 l ≡ line.Text) (lines (page_items q))

@@ -22,6 +22,7 @@ use Rattle.wt_text_edit_laws.specs.TextBetween.{StandsBehind}
 use Rattle.wt_text_edit_laws.specs.Paragraphs.{IsParagraph}
 use Rattle.wt_text_edit_laws.specs.TextBlocks.{TextBlock, a_paragraph, a_heading, source_of, block_items, block_tree, IsBlock, IsTypedIn}
 use Rattle.wt_text_edit_laws.specs.BlockSpots.{BlockSpot, SameRound, AreBlocks, AreContents}
+use Rattle.wt_text_edit_laws.specs.NoCalls.{AreUnpaired}
 use Rattle.wt_text_edit_laws.specs.ReadContents.{IsFirmlyRead}
 use Rattle.wt_text_edit_laws.specs.Contents.{AreParagraphLines, IsContentOf, content_parts_of, IsContent, StaysAnywhere, IsFirmContent, IsNewContent}
 use Rattle.wt_text_edit_laws.proofs.Texts.TypedLeaves.{Leaf, letters, reference, guard, leaves, leaf_tree}
@@ -31,7 +32,7 @@ use Rattle.wt_text_edit_laws.proofs.Prose.InFront.{Reads, reads_nothing, spelled
 use Rattle.wt_text_edit_laws.proofs.Prose.ProseReading.{page_front}
 use Rattle.wt_text_edit_laws.proofs.Between.ClosingTags.{Unclosed}
 use Rattle.wt_text_edit_laws.proofs.Between.Fronts.{behind_reads}
-use Rattle.wt_text_edit_laws.proofs.Between.LessBraces.{none_unbraced, unbraced_begins, page_unbraced}
+use Rattle.wt_text_edit_laws.proofs.Between.LessBraces.{none_unbraced, fewer_again, unbraced_begins, page_unbraced}
 use Rattle.wt_text_edit_laws.proofs.Paragraphs.LineBlocks.{page_breaks, all_unled, parts_source}
 use Rattle.wt_text_edit_laws.proofs.Paragraphs.SeenLines.{texts_seen}
 use Rattle.wt_text_edit_laws.proofs.Paragraphs.Texts.{EndsHere, paragraph_lines, paragraph_utf8, paragraph_written}
@@ -40,7 +41,7 @@ use Rattle.wt_text_edit_laws.proofs.Blocks.BlockReading.{typed_text, IsBeforeAny
 use Rattle.wt_text_edit_laws.proofs.Blocks.SignBraces.{items_unclosed}
 use Rattle.wt_text_edit_laws.proofs.Blocks.BlockLeaves.{open_items, close_items, block_leaves}
 use Rattle.wt_text_edit_laws.proofs.Blocks.BlockLines.{heading_frame, heading_level, heading_text}
-use Rattle.wt_text_edit_laws.proofs.Blocks.TypedBraces.{AreTypedOver, AreNewOver}
+use Rattle.wt_text_edit_laws.proofs.Blocks.TypedBraces.{AreTypedOver, AreNewOver, source_braces}
 use Rattle.wt_text_edit_laws.proofs.Blocks.TypedFacts.{framed}
 use Rattle.wt_text_edit_laws.proofs.Blocks.Untangled.{text_untangled}
 
@@ -166,7 +167,6 @@ typed_firm k q h = record {
       let r : Reads (q ++ rest) (page_items q ++ page_items rest) = page_front q rest (page_items rest) (typed_page k q h) (behind_reads rest b) in
       stands (q ++ rest) r.begins;
   stays = typed_stays k q h;
-  unpaired = none_unbraced (page_items q) (page_unbraced q (typed_page k q h));
   unclosed = items_unclosed q (unbraced_begins (page_items q) (page_unbraced q (typed_page k q h)));
 }
 
@@ -176,16 +176,25 @@ typed_firmly k q h = firmly_read k q (typed_firm k q h)
 typed_unclosed : (q name rest : List ℕ) → IsTypedPage q → Unclosed name rest → Unclosed name (q ++ rest)
 typed_unclosed q name rest h g = subst (λ bs. Unclosed name (bs ++ rest)) (sym h.is) (spelled_unclosed h.setting h.text name rest g)
 
+typed_unpaired : (k : TextBlock) (q : List ℕ) → IsTypedIn k q → AreUnpaired (page_items (source_of k q))
+typed_unpaired k q h =
+    source_braces k q (typed_frame k q h) (typed_unended k q h) ∙ none_unbraced (page_items q) (page_unbraced q (typed_page k q h))
+
 -- in the place of any content
 pub typed_new : (k : TextBlock) (was now : List ℕ) → IsTypedIn k now → IsNewContent k was now
 typed_new k was now h = record {
   firm = typed_firm k now h;
+  fewer = inl (typed_unpaired k now h);
   closes = λ name us vs o n. typed_unclosed now name vs (typed_page k now h) n;
 }
 
 -- one in the place of a new one
 pub new_again : (k : TextBlock) (was now last : List ℕ) → IsNewContent k was now → IsNewContent k now last → IsNewContent k was last
-new_again k was now last h g = record { firm = g.firm; closes = λ name us vs o n. g.closes name vs vs (h.closes name us vs o n) n }
+new_again k was now last h g = record {
+  firm = g.firm;
+  fewer = fewer_again (page_items (source_of k was)) (page_items (source_of k now)) (page_items (source_of k last)) h.fewer g.fewer;
+  closes = λ name us vs o n. g.closes name vs vs (h.closes name us vs o n) n;
+}
 
 pub over_content : (k : TextBlock) (was now : List ℕ) → (now ≡ was) ⊎ IsNewContent k was now → IsContent k was → IsContent k now
 over_content k was now (inl e) h = subst (λ q. IsContent k q) (sym e) h

@@ -18,12 +18,12 @@ use Rattle.wt_span.specs.Tags.{opening_tag, closing_tag, raw_len, include_at}
 use Rattle.wt_expand.specs.PageItems.{page_items}
 use Rattle.wt_expand.proofs.PageLaws.{page_sources}
 use Rattle.wt_text_edit_laws.specs.LonePages.{page_chars}
-use Rattle.wt_text_edit_laws.specs.NoCalls.{Brace, opening, closing, braces, is_brace}
+use Rattle.wt_text_edit_laws.specs.NoCalls.{Brace, opening, closing, braces, is_brace, braces_of}
 use Rattle.wt_text_edit_laws.specs.ReadContents.{BeginsUnclosed}
 use Rattle.wt_text_edit_laws.specs.SignParts.{IsBareSign, IsSign, AreSigned}
 use Rattle.wt_text_edit_laws.specs.TextBetween.{EndsBy}
 use Rattle.wt_text_edit_laws.proofs.Between.Fronts.{first_items, items_from, first_from, byte_from, form_from}
-use Rattle.wt_text_edit_laws.proofs.Between.LessBraces.{BeginsUnbraced, braces_of}
+use Rattle.wt_text_edit_laws.proofs.Between.LessBraces.{BeginsUnbraced}
 use Rattle.wt_text_edit_laws.proofs.Between.LineComments.{ends_behind}
 
 -- ---- a `}` is read as itself

@@ -1,23 +1,23 @@
--- In a content that is written no two braces are side by side, so where some are written in the place of others the page has fewer of these, and calls
--- nothing either.
-use Rattle.std.proofs.Common.{◌≡◌, ◌⊎◌, inl, inr, ℕ, ◌==◌, Bool, true, false, List, [], ◌∷◌, ◌++◌, map, refl, sym, ap, ◌∙◌, subst}
+-- In a content that is written no two braces are side by side, or some of those of the old one are, so where some are written in the place of others the page
+-- has fewer of these, and calls nothing either.
+use Rattle.std.proofs.Common.{◌≡◌, ◌⊎◌, inl, inr, ℕ, ◌==◌, Bool, true, false, List, [], ◌∷◌, ◌++◌, map, refl, sym, ap, ◌∙◌, subst, append-nil}
 use Rattle.std.proofs.lemmas.Bool.{eqb-true}
 use Rattle.wt_span.specs.Items.{Item, char, whole, sign}
 use Rattle.wt_lines.specs.Kinds.{is_idle}
 use Rattle.wt_expand.specs.PageItems.{page_items}
 use Rattle.wt_expand.proofs.PageLaws.{page_sources}
 use Rattle.wt_text_edit_laws.specs.LonePages.{page_chars}
-use Rattle.wt_text_edit_laws.specs.NoCalls.{Brace, CallsNothing, AreUnpaired, is_brace, AreUnbraced}
+use Rattle.wt_text_edit_laws.specs.NoCalls.{Brace, CallsNothing, braces_of, IsSome, is_brace, AreUnbraced}
 use Rattle.wt_text_edit_laws.proofs.Between.LineWords.{either}
-use Rattle.wt_text_edit_laws.proofs.Between.LessBraces.{IsSome, all_some, some_both, pairs_some, BeginsUnbraced, braces_of, items_behind_end, items_before_start, none_unbraced, unbraced_joined, unbraced_ends, unbraced_begins, ended_unbraced}
+use Rattle.wt_text_edit_laws.proofs.Between.LessBraces.{all_some, some_both, pairs_some, BeginsUnbraced, items_behind_end, items_before_start, none_unbraced, unbraced_joined, unbraced_ends, unbraced_begins, ended_unbraced, fewer_calm, fewer_some}
 use Rattle.wt_text_edit_laws.specs.ReadContents.{BeginsUnclosed}
 use Rattle.wt_text_edit_laws.specs.SignParts.{IsOnSign, IsLedTo}
 use Rattle.wt_text_edit_laws.proofs.Blocks.SignBraces.{FirstUnclosed, first_unclosed, signed_braces}
 use Rattle.wt_text_edit_laws.specs.TypedHeadings.{Sides, AreIdle, equals, opening, closing_items, EndsLine}
-use Rattle.wt_text_edit_laws.specs.TextBlocks.{TextBlock, a_paragraph, a_heading, block_items, IsFrame, IsTypedIn, BeginsLine}
-use Rattle.wt_text_edit_laws.specs.Contents.{IsFirmContent, IsNewContent}
+use Rattle.wt_text_edit_laws.specs.TextBlocks.{TextBlock, a_paragraph, a_heading, source_of, block_items, IsFrame, IsTypedIn, BeginsLine}
+use Rattle.wt_text_edit_laws.specs.Contents.{IsNewContent}
 use Rattle.wt_text_edit_laws.specs.BlockSpots.{BlockSpot, spots_source, EndBeforeBlocks, IsRead, AreReadAfter, AreRead, SameRound}
-use Rattle.wt_text_edit_laws.proofs.Blocks.BlockReading.{AreQuiet, run_quiet, blanks_quiet, opening_quiet, quiet_joined, each_quiet, content_frame, read_spot, read_spots, spots_items, items_of_parts}
+use Rattle.wt_text_edit_laws.proofs.Blocks.BlockReading.{AreQuiet, HasFrame, run_quiet, blanks_quiet, opening_quiet, quiet_joined, each_quiet, read_spot, read_spots, spots_items, items_of_parts}
 
 -- ---- a block with such a content
 
@@ -50,19 +50,28 @@ pub line_unbraced : (s : Sides) (own : List Item) → IsFrame s → AreUnbraced 
 line_unbraced s own f u =
     unbraced_joined (page_chars (opening s)) (own ++ closing_items s) (opening_unbraced s f) (unbraced_joined own (closing_items s) u (closing_unbraced s f))
 
-pub line_unpaired : (s : Sides) (own : List Item) → IsFrame s → AreUnpaired own → AreUnpaired (page_chars (opening s) ++ (own ++ closing_items s))
-line_unpaired s own f u =
+pub line_braces : (s : Sides) (own : List Item) → IsFrame s → braces_of (page_chars (opening s) ++ (own ++ closing_items s)) ≡ braces_of own
+line_braces s own f =
     let front : AreUnbraced (page_chars (opening s)) = opening_unbraced s f in
     let back : AreUnbraced (closing_items s) = closing_unbraced s f in
     items_behind_end (page_chars (opening s)) (own ++ closing_items s) (unbraced_ends (page_chars (opening s)) front)
     ∙ ap (λ (bs : List Brace). bs ++ braces_of (own ++ closing_items s)) (none_unbraced (page_chars (opening s)) front)
     ∙ items_before_start own (closing_items s) (unbraced_begins (closing_items s) back)
-    ∙ ap (λ (bs : List Brace). bs ++ braces_of (closing_items s)) u
-    ∙ none_unbraced (closing_items s) back
+    ∙ ap (λ (bs : List Brace). braces_of own ++ bs) (none_unbraced (closing_items s) back)
+    ∙ append-nil (braces_of own)
 
-pub firm_unpaired : (k : TextBlock) (q : List ℕ) → IsFirmContent k q → AreUnpaired (block_items k q)
-firm_unpaired a_paragraph q h = h.unpaired
-firm_unpaired (a_heading s) q h = line_unpaired s (page_items q) (content_frame (a_heading s) q h.content) h.unpaired
+-- a block has those of its content
+pub block_braces : (k : TextBlock) (q : List ℕ) → HasFrame k → braces_of (block_items k q) ≡ braces_of (page_items q)
+block_braces a_paragraph q f = refl
+block_braces (a_heading s) q f = line_braces s (page_items q) f
+
+pub source_braces : (k : TextBlock) (q : List ℕ) → HasFrame k → page_items (source_of k q) ≡ block_items k q → braces_of (page_items (source_of k q)) ≡ braces_of (page_items q)
+source_braces k q f e = ap braces_of e ∙ block_braces k q f
+
+-- so the one of a new content calls nothing
+pub new_calm : (k : TextBlock) (was now : List ℕ) → IsNewContent k was now → CallsNothing (block_items k now)
+new_calm k was now n =
+    subst CallsNothing n.firm.content.unended (fewer_calm (page_items (source_of k now)) (page_items (source_of k was)) n.fewer)
 
 -- ---- pages that are the same but for texts that were typed
 
@@ -77,11 +86,14 @@ AreNewOver [] rs = Unit {0}
 AreNewOver (s ∷ ss) [] = Unit {0}
 AreNewOver (s ∷ ss) (r ∷ rs) = ((r.text ≡ s.text) ⊎ IsNewContent r.block s.text r.text) × AreNewOver ss rs
 
-block_fewer : (k : TextBlock) (was now : List ℕ) → (now ≡ was) ⊎ IsNewContent k was now → IsSome (braces_of (block_items k now)) (braces_of (block_items k was))
-block_fewer k was now (inl e) =
+block_fewer : (k : TextBlock) (was now : List ℕ) → page_items (source_of k was) ≡ block_items k was → (now ≡ was) ⊎ IsNewContent k was now
+    → IsSome (braces_of (block_items k now)) (braces_of (block_items k was))
+block_fewer k was now u (inl e) =
     subst (λ q. IsSome (braces_of (block_items k q)) (braces_of (block_items k was))) (sym e) (all_some (braces_of (block_items k was)))
-block_fewer k was now (inr h) =
-    subst (λ (bs : List Brace). IsSome bs (braces_of (block_items k was))) (sym (firm_unpaired k now h.firm)) tt
+block_fewer k was now u (inr h) =
+    subst (λ (xs : List Item). IsSome (braces_of xs) (braces_of (block_items k was))) h.firm.content.unended
+    (subst (λ (xs : List Item). IsSome (braces_of (page_items (source_of k now))) (braces_of xs)) u
+    (fewer_some (page_items (source_of k now)) (page_items (source_of k was)) h.fewer))
 
 -- behind a block the page ends, or a line break stands
 longer_line : (xs ys : List Item) → BeginsLine xs → EndsLine (xs ++ ys)
@@ -125,8 +137,10 @@ spot_fewer : (s r : BlockSpot) (ss rs : List BlockSpot) (behind : List ℕ) → 
 spot_fewer s r ss rs behind h f g k e o rest =
     let front : IsSome (braces_of (page_items r.before)) (braces_of (page_items s.before)) =
     subst (λ q. IsSome (braces_of (page_items q)) (braces_of (page_items s.before))) (sym e.0) (all_some (braces_of (page_items s.before))) in
+    let unended : page_items (source_of r.block s.text) ≡ block_items r.block s.text =
+    subst (λ b. page_items (source_of b s.text) ≡ block_items b s.text) (sym e.1) h.block.unended in
     let own : IsSome (braces_of (block_items r.block r.text)) (braces_of (block_items s.block s.text)) =
-    subst (λ b. IsSome (braces_of (block_items r.block r.text)) (braces_of (block_items b s.text))) e.1 (block_fewer r.block s.text r.text o) in
+    subst (λ b. IsSome (braces_of (block_items r.block r.text)) (braces_of (block_items b s.text))) e.1 (block_fewer r.block s.text r.text unended o) in
     subst (λ (bs : List Brace). IsSome bs (braces_of (spots_items (s ∷ ss) behind))) (sym (braces_split r rs behind g k))
     (subst (λ (bs : List Brace). IsSome (braces_of (page_items r.before) ++ (braces_of (block_items r.block r.text) ++ braces_of (spots_items rs behind))) bs)
     (sym (braces_split s ss behind h f))

@@ -249,7 +249,7 @@ no_tag b h =
     each_sign (λ (c : ℕ). c ≢ 60) (λ e. omega (arith, e)) (λ e. omega (arith, e)) (λ e. omega (arith, e)) (λ e. omega (arith, e)) (λ e. omega (arith, e))
     (λ e. omega (arith, e)) b h
 
-sign_anyway : (a : Bool) (b : ℕ) (bs : List ℕ) → is_sign_byte b ≡ true → form_at Page a (b ∷ bs) ≡ sign_word (b ∷ bs)
+pub sign_anyway : (a : Bool) (b : ℕ) (bs : List ℕ) → is_sign_byte b ≡ true → form_at Page a (b ∷ bs) ≡ sign_word (b ∷ bs)
 sign_anyway a b bs h =
     either_flag Page a (b ∷ bs) (uncommented_other b bs (no_blank b h) (comment_other b bs (no_tag b h))) ∙ sign_form b bs h
 
