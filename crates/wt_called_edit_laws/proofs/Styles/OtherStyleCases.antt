@@ -1,5 +1,5 @@
 -- Worked case: the page's paragraph `'''x{{t}}z'''y`, where `Template:T` is `''b''`: a call in bold that gives italic, what is sent for it, and what it makes.
-use Rattle.std.proofs.Common.{◌≡◌, ◌<◌, inl, inr, ℕ, zero, suc, false, Some, None, List, [], ◌∷◌, arith, refl, sym, ap, ◌∙◌, subst}
+use Rattle.std.proofs.Common.{◌≡◌, ◌<◌, ◌==◌, inl, inr, ℕ, zero, suc, false, true, Some, None, List, [], ◌∷◌, arith, refl, sym, ap, ◌∙◌, subst}
 use Rattle.std.specs.Prelude.{codes, if◌then◌else◌}
 use Rattle.std.specs.Str.{bytes_eq, is_utf8, chars, IsUtf8}
 use Rattle.std.specs.Str.Lossy.{utf8_valid_len}
@@ -17,7 +17,7 @@ use Rattle.wt_names.specs.Reading.{whole_in, cut_namespace, title_in}
 use Rattle.wt_names.specs.Written.{link_to}
 use Rattle.wt_tree.specs.declared.kind.Kind.TheVariants as kind
 use Rattle.wt_tree.specs.declared.kind.Mark.TheVariants as marks
-use Rattle.wt_tree.specs.Plain.{Plains, plain_before, text_before}
+use Rattle.wt_tree.specs.Plain.{Plains, plain_before}
 use Rattle.wt_tree.specs.Source.{flat}
 use Rattle.wt_tree.specs.Tree.{Label, Tree, Trees, label, more, none, tree}
 use Rattle.wt_original.specs.Kept.{kept_with}
@@ -272,6 +272,9 @@ are_nodes =
       ((b, record { inline = refl; shows = λ n. absurd n }), tt),
     )
 
+not_zero : (n : ℕ) → (n == 0) ≡ false → n ≡ 0 → ⊥
+not_zero n f e = let no : false ≡ true = sym f ∙ ap (λ (m : ℕ). m == 0) e in cc
+
 pub in_class : IsBesideStyles a_style a_paragraph source block
 unfolding label_at context_parts chunks segments loose_segments tiles shapes closes tile_at link_or_url link_at ext_link_at bare_url_at scheme_len
     tag_tile tag_at switch_at children with_styles style_tree_of toggles_of toggle_at opens_tag closes_tag place_of since next bold_ends_later effect_on
@@ -281,7 +284,7 @@ in_class = record {
   pieces = pieces;
   is = refl;
   parts = in_pieces;
-  numbers = (((λ e. cc), (tt, ((λ e. cc), (tt, tt)))), (tt, tt));
+  numbers = ((not_zero (label bold_node).id refl, (tt, (not_zero (label group).id refl, (tt, tt)))), (tt, tt));
   children = are_nodes;
   nest = ((refl, ((λ e. refl), (tt, ((λ e. refl), tt)))), ((λ e. refl), tt));
   things = subst (ArePageThings a_style) (sym things_are) of_page;
@@ -314,7 +317,7 @@ edit_of = record {
   stay = (
     inl refl,
     record { kind = refl; id = refl; attrs = refl; mw = refl; shown = λ e. refl; unmarked = refl },
-    (stands_as_sent group (record { numbered = λ e. cc; unnumbered = (refl, tt); unframed = refl }), tt),
+    (stands_as_sent group (record { numbered = not_zero (label group).id refl; unnumbered = (refl, (refl, tt)); unframed = refl }), tt),
     tt,
   );
   are = ((are_letters.0, (tt, (are_letters.1, tt))), (are_letters.2, tt));
