@@ -17,6 +17,7 @@ pub mod HtmlEdits
 pub mod BesideEdits
 pub mod EditsWithCalls
 pub mod TextAndCallBlocks
+pub mod SectionsAlike
 pub mod LocalTextEdits
 pub mod TypedApart
 pub mod TypedBeside
