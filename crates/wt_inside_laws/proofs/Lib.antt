@@ -71,3 +71,5 @@ pub mod CallingCases
 mod WithCallsCases
 pub mod Sources
 pub mod Meeting
+pub mod NodeNumbers
+pub mod NodeBlocks

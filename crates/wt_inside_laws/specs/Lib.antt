@@ -21,3 +21,4 @@ pub mod SectionsAlike
 pub mod LocalTextEdits
 pub mod TypedApart
 pub mod TypedBeside
+pub mod NodeBlocks
