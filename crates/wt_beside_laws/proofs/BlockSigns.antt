@@ -98,7 +98,7 @@ block_nodes ls block f u b =
 pub sent_content : (same : Tree → Tree → Bool) (s : Setting) (pl : Place) (ls : List (List Item)) (block : Tree) (news : Trees) → TellsSame same → s.within ≡ false
     → AreFlatLines ls → AreUnstyled ls → IsBlockOfLines ls block → AreKept (signs_of_lines (length (label block).opening) ls)
     → AreSent (page_of same block) news → numbers news ≡ numbers (children_of block) → AreCharacters (signs_of_all (page_of same block) pl news)
-    → AreMarksLed (signs_of_all (page_of same block) pl news) → AllStayOpen s [] (signs_of_all (page_of same block) pl news)
+    → AreMarksLed s.place (signs_of_all (page_of same block) pl news) → AllStayOpen s [] (signs_of_all (page_of same block) pl news)
     → IsFlatContent s (signs_of_all (page_of same block) pl news)
 sent_content same s pl ls block news tells within f u b kept sent counted characters led unclosed =
     let flat : IsFlatBlock block = flat_block ls block f u b in

@@ -131,7 +131,7 @@ lines_unbroken at (xs ∷ ys ∷ ls) h =
 -- ---- the content
 
 pub flat_content : (s : Setting) (ls : List (List Item)) (at : ℕ) (signs : List ContentSign) → s.within ≡ false → AreFlatLines ls → AreKept (signs_of_lines at ls)
-    → AreCharacters signs → AreMarksLed signs → things signs ≡ things (signs_of_lines at ls) → AllStayOpen s [] signs → IsFlatContent s signs
+    → AreCharacters signs → AreMarksLed s.place signs → things signs ≡ things (signs_of_lines at ls) → AllStayOpen s [] signs → IsFlatContent s signs
 flat_content s ls at signs block flat kept characters led same unclosed = record {
   of_block = block;
   characters = characters;

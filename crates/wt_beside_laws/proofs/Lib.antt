@@ -17,6 +17,8 @@ pub mod NodesMeet
 pub mod NodesStand
 pub mod OpenTags
 pub mod LinesClosed
+pub mod NodesClosed
+pub mod TagEnds
 pub mod LinesOpen
 pub mod Each
 pub mod PageNodes

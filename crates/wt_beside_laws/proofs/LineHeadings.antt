@@ -6,7 +6,7 @@ use Rattle.std.proofs.lemmas.Bool.Decides.{nat_tests}
 use Rattle.std.proofs.lemmas.List.Elements.{All-head, All-tail}
 use Rattle.std.proofs.lemmas.Str.{encode_ascii}
 use Rattle.wt_span.specs.Bytes.{is_blank}
-use Rattle.wt_span.specs.Items.{Item, sign}
+use Rattle.wt_span.specs.Items.{Item, char, whole, sign, is_mark}
 use Rattle.wt_names.proofs.Ascii.{IsWide, encode_wide, encode_some}
 use Rattle.wt_tree.specs.declared.edit_shape.Place.TheVariants as place
 use Rattle.wt_guards.specs.Content.{ContentSign, letter, thing}
@@ -26,7 +26,7 @@ use Rattle.wt_beside_laws.specs.Lines.{AreCharacters, AreUnbroken, line_items}
 use Rattle.wt_beside_laws.specs.Nodes.{AreNodes}
 use Rattle.wt_beside_laws.specs.Unjoined.{AllUnjoined}
 use Rattle.wt_beside_laws.proofs.LineItems.{letter_unbroken}
-use Rattle.wt_beside_laws.proofs.LineKinds.{Opens, line_opens}
+use Rattle.wt_beside_laws.proofs.LineKinds.{Opens, OpensLed, led_line}
 use Rattle.wt_beside_laws.proofs.NodeEnds.{EndInSigns, nodes_end, ends_unequal}
 use Rattle.wt_beside_laws.proofs.Marks.Commented.{content_alone}
 use Rattle.wt_beside_laws.proofs.Marks.Unjoined.{meet_unjoined}
@@ -75,9 +75,19 @@ same_items s before (thing t ∷ after) o =
 neither : (b : ℕ) → OpensText b → is_blank b ≡ false
 neither b o = ap (λ (t : Bool). t || (b == 9)) o.space ∙ o.tab
 
+pub marked : (test : ℕ → Bool) (x : Item) → is_mark x ≡ true → test 257 ≡ false → test (sign x) ≡ false
+marked test (char o b) m e = cc
+marked test (whole f o bs) m e = ap (λ (v : Bool). test (if v then 257 else 256)) m ∙ e
+
 pub begins_seen : (xs : List Item) → Opens xs → BeginsWithout is_blank (map sign xs)
 begins_seen [] h = h
 begins_seen (x ∷ xs) h = neither (sign x) h
+
+-- a mark is no blank either
+led_seen : (xs : List Item) → OpensLed xs → BeginsWithout is_blank (map sign xs)
+led_seen [] h = h
+led_seen (x ∷ xs) (inl m) = marked is_blank x m.0 refl
+led_seen (x ∷ xs) (inr o) = neither (sign x) o
 
 -- ---- what is last
 
@@ -131,14 +141,14 @@ content_last s before (thing t ∷ after) own w p e f =
 -- ---- the content
 
 pub inside_by : (s : Setting) (signs : List ContentSign) → s.within ≡ false → s.place ≡ place.Heading → AreKept signs → AreUnbroken signs → AreCharacters signs
-    → AreNodes signs → AllUnjoined s [] signs → AreMarksLed signs → AreOnOneLine signs → IsHeadingInside (page_items (spelled s signs))
+    → AreNodes signs → AllUnjoined s [] signs → AreMarksLed s.place signs → AreOnOneLine signs → IsHeadingInside (page_items (spelled s signs))
 inside_by s signs block head kept unbroken characters nodes unjoined led one =
     let is = content_alone s signs (record { within = block; kept = kept; nodes = nodes; unjoined = unjoined; led = led }) in
     subst IsHeadingInside (sym is)
     (record {
       unbroken = content_none s [] signs one unbroken;
       begins = subst (λ xs. BeginsWithout is_blank (map sign xs)) (same_items s [] signs one)
-          (begins_seen (line_items s [] signs) (line_opens s [] signs block refl led.first characters nodes));
+          (led_seen (line_items s [] signs) (led_line s [] signs block refl characters nodes));
       ends = content_last s [] signs [] block head (nodes_end signs nodes)
           (λ z. let no : true ≡ false = sym (end_guarded s [] block refl) ∙ z in cc);
     })
@@ -203,6 +213,11 @@ pub begins_unequal : (xs : List Item) → Opens xs → BeginsWithout is_equals_s
 begins_unequal [] h = h
 begins_unequal (x ∷ xs) h = grind (arith, nat_tests, h.equals)
 
+pub led_unequal : (xs : List Item) → OpensLed xs → BeginsWithout is_equals_sign (map sign xs)
+led_unequal [] h = h
+led_unequal (x ∷ xs) (inl m) = marked is_equals_sign x m.0 refl
+led_unequal (x ∷ xs) (inr o) = grind (arith, nat_tests, o.equals)
+
 -- a blank parts them, or the content ends so
 pub unequal_end : (ss trail : List ℕ) → AreBlanks trail → IsSome trail ⊎ EndsWithout is_equals_sign ss → EndsWithout is_equals_sign (ss ++ trail)
 unequal_end ss [] a (inl h) = absurd h
@@ -210,14 +225,14 @@ unequal_end ss [] a (inr h) = ends_other ss [] a h
 unequal_end ss (b ∷ bs) a h = ends_still ss b bs (ends_blank b bs a)
 
 pub level_by : (s : Setting) (signs : List ContentSign) (sides : Sides) → s.within ≡ false → AreKept signs → AreCharacters signs → AreNodes signs
-    → AllUnjoined s [] signs → AreMarksLed signs → AreOnOneLine signs → AreSides sides → KeepsLevel sides signs → IsOfLevel sides (page_items (spelled s signs))
+    → AllUnjoined s [] signs → AreMarksLed s.place signs → AreOnOneLine signs → AreSides sides → KeepsLevel sides signs → IsOfLevel sides (page_items (spelled s signs))
 level_by s signs sides block kept characters nodes unjoined led one a k =
     let own : List Item = page_items (spelled s signs) in
     let is : own ≡ content_items s [] signs = content_alone s signs (record { within = block; kept = kept; nodes = nodes; unjoined = unjoined; led = led }) in
     let ss : List ℕ = map sign own in
     let begins : BeginsWithout is_equals_sign ss =
     subst (λ xs. BeginsWithout is_equals_sign (map sign xs)) (sym (is ∙ sym (same_items s [] signs one)))
-    (begins_unequal (line_items s [] signs) (line_opens s [] signs block refl led.first characters nodes)) in
+    (led_unequal (line_items s [] signs) (led_line s [] signs block refl characters nodes)) in
     let last : IsSome sides.trail ⊎ EndsWithout is_equals_sign ss = elim k [
       | inl some ↦ inl some
       | inr ends ↦ inr (subst UnequalLast (sym is) (all_unequal s signs block nodes ends))

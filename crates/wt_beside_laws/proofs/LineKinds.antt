@@ -13,6 +13,7 @@ use Rattle.wt_span.specs.declared.form.ItemForm.TheVariants as form
 use Rattle.wt_span.specs.Items.{Item, char, whole, is_mark_form, is_mark, sign}
 use Rattle.wt_names.proofs.Ascii.{IsWide, encode_wide, encode_some}
 use Rattle.wt_names.proofs.Utf8.{utf8_bytes}
+use Rattle.wt_tree.specs.declared.edit_shape.Place.TheVariants as place
 use Rattle.wt_guards.specs.declared.role.Role.{Role}
 use Rattle.wt_guards.specs.declared.role.Role.TheVariants.{Link, External, Bare, Switch, Toggle, Mark, Group, Function, Node}
 use Rattle.wt_guards.specs.Content.{ContentSign, Thing, letter, thing, nearest, ends_line, is_invisible}
@@ -338,8 +339,8 @@ or_none false b e = refl
 
 -- ---- the first line begins with no mark
 
-pub line_opens : (s : Setting) (before signs : List ContentSign) → s.within ≡ false → is_line_start (nearest before) ≡ true → BeginsUnled signs
-    → AreCharacters signs → AreNodes signs → Opens (line_items s before signs)
+pub line_opens : (s : Setting) (before signs : List ContentSign) → s.within ≡ false → is_line_start (nearest before) ≡ true
+    → BeginsUnled place.Paragraph signs → AreCharacters signs → AreNodes signs → Opens (line_items s before signs)
 line_opens s before [] w l b v n = subst (λ u. Opens (guard_items u)) (sym (end_guarded s before w l)) atom_opens
 line_opens s before (letter c ∷ after) w l b v n =
     let e = is_escaped s.within s.place before c after in
@@ -360,13 +361,13 @@ pub opens_unmarked : (xs : List Item) → Opens xs → marks_len xs ≡ 0
 opens_unmarked [] h = refl
 opens_unmarked (x ∷ xs) h = ap (λ (t : Bool). if t then 1 + prefix_len is_mark xs else 0) (no_mark x h)
 
-pub first_unmarked : (s : Setting) (signs : List ContentSign) → s.within ≡ false → BeginsUnled signs → AreCharacters signs → AreNodes signs
+pub first_unmarked : (s : Setting) (signs : List ContentSign) → s.within ≡ false → BeginsUnled place.Paragraph signs → AreCharacters signs → AreNodes signs
     → marks_len (line_items s [] signs) ≡ 0
 first_unmarked s signs w b v n = opens_unmarked (line_items s [] signs) (line_opens s [] signs w refl b v n)
 
 -- ---- each line is text, behind marks that begin it
 
-abbrev OpensLed : List Item → Type 0
+abbrev pub OpensLed : List Item → Type 0
 OpensLed [] = ⊥
 OpensLed (x ∷ xs) = ((is_mark x ≡ true) × OpensLed xs) ⊎ OpensText (sign x)
 
@@ -450,7 +451,7 @@ led_letter s before c after true w l f v n =
     subst (λ (g : Bool). OpensLed (guard_items g ++ rest)) (sym (empty_guarded s before (letter c ∷ after) w l f refl)) (inr atom_opens)
 led_letter s before c after false w l f v n = led_inside s before (letter c ∷ after) w (start_begun before l) f v n
 
-led_line : (s : Setting) (before signs : List ContentSign) → s.within ≡ false → is_line_start (nearest before) ≡ true → AreCharacters signs → AreNodes signs
+pub led_line : (s : Setting) (before signs : List ContentSign) → s.within ≡ false → is_line_start (nearest before) ≡ true → AreCharacters signs → AreNodes signs
     → OpensLed (line_items s before signs)
 led_line s before [] w l v n = subst (λ u. OpensLed (guard_items u)) (sym (end_guarded s before w l)) (inr atom_opens)
 led_line s before (letter c ∷ after) w l v n = led_letter s before c after (is_empty_line (letter c ∷ after)) w l refl v n
@@ -479,6 +480,6 @@ lines_are_text tables s signs w v n =
     All-cons (IsLineOfText tables) (line_items s [] signs) (later_lines s [] signs) (led_kind tables (line_items s [] signs) (led_line s [] signs w refl v n))
     (later_are tables s [] signs w v n)
 
-pub are_lines_of_text : (tables : ℕ) (s : Setting) (signs : List ContentSign) → s.within ≡ false → BeginsUnled signs → AreCharacters signs → AreNodes signs
+pub are_lines_of_text : (tables : ℕ) (s : Setting) (signs : List ContentSign) → s.within ≡ false → BeginsUnled place.Paragraph signs → AreCharacters signs → AreNodes signs
     → AreLinesOfText tables (content_lines s signs)
 are_lines_of_text tables s signs w b v n = (first_unmarked s signs w b v n, lines_are_text tables s signs w v n)

@@ -24,10 +24,10 @@ use Rattle.wt_tiles.proofs.TagInsides.{no_tag}
 use Rattle.wt_beside_laws.specs.Cuts.{own_glyphs}
 use Rattle.wt_beside_laws.specs.Glyphs.{guard_glyphs, letter_glyphs, line_glyphs}
 use Rattle.wt_beside_laws.specs.Nodes.{ClosesNone, IsOpenBy, IsOpenBefore, AllStayOpen, KeepsOpen}
-use Rattle.wt_beside_laws.specs.OpenTags.{is_open_tag, ends_in_tag, is_tagged, spine}
+use Rattle.wt_beside_laws.specs.OpenTags.{is_tagged, spine}
 use Rattle.wt_beside_laws.proofs.LineTiles.{tag_less, line_front}
 use Rattle.wt_beside_laws.proofs.OpenTags.{untagged_open}
-use Rattle.wt_beside_laws.proofs.PairTiles.{tag_whole}
+use Rattle.wt_beside_laws.proofs.PairTiles.{may_go_on, tag_goes_on, tag_whole}
 use Rattle.wt_beside_laws.proofs.TypedForms.{tag_none}
 
 -- ---- by the nodes alone, whatever is typed between them
@@ -47,11 +47,11 @@ abbrev pub GoesOn : Option ℕ → (ℕ → Type 0) → Type 0
 GoesOn None P = ⊥
 GoesOn (Some d) P = P d
 
--- None up to the end of the line closes a tag of the k-th name, where so many are open, and none ends in a tag that isn't ended.
+-- None up to the end of the line closes a tag of the k-th name, where so many are open, and in none a tag begins that may go on behind it.
 abbrev pub NoneOnLine : ℕ → ℕ → List (Option Thing) → Type 0
 NoneOnLine k d [] = Unit {0}
 NoneOnLine k d (None ∷ more) = Unit {0}
-NoneOnLine k d (Some t ∷ more) = (ends_in_tag (own_glyphs t) ≡ false) × GoesOn (depth_past k d (own_glyphs t)) (λ e. NoneOnLine k e more)
+NoneOnLine k d (Some t ∷ more) = (tag_goes_on (own_glyphs t) ≡ false) × GoesOn (depth_past k d (own_glyphs t)) (λ e. NoneOnLine k e more)
 
 abbrev pub NoneCloses : Name → TagShape → List (Option Thing) → Type 0
 NoneCloses (Paired m) Opening more = NoneOnLine (number m) 0 more
@@ -120,10 +120,10 @@ past_untagged k d (g ∷ own) gs e =
     let f = neither (in_class (class.Only 60) g) (is_tagged own) e in
     past_level k d g (own ++ gs) (no_tag (g ∷ (own ++ gs)) f.0) ∙ past_untagged k d own gs f.1
 
-pub here_same : (g : Glyph) (own more : List Glyph) → (in_class (class.Only 60) g && is_open_tag own) ≡ false → tag_at (g ∷ (own ++ more)) ≡ tag_at (g ∷ own)
+pub here_same : (g : Glyph) (own more : List Glyph) → (in_class (class.Only 60) g && may_go_on own) ≡ false → tag_at (g ∷ (own ++ more)) ≡ tag_at (g ∷ own)
 here_same g own more e = by (in_class (class.Only 60) g) refl e
   where
-    by : (v : Bool) → in_class (class.Only 60) g ≡ v → (v && is_open_tag own) ≡ false → tag_at (g ∷ (own ++ more)) ≡ tag_at (g ∷ own)
+    by : (v : Bool) → in_class (class.Only 60) g ≡ v → (v && may_go_on own) ≡ false → tag_at (g ∷ (own ++ more)) ≡ tag_at (g ∷ own)
     by true i z = tag_whole g own more z
     by false i z = no_tag (g ∷ (own ++ more)) i ∙ sym (no_tag (g ∷ own) i)
 
@@ -134,11 +134,11 @@ by_turn Level d here rest P F h f = f d h
 by_turn Down zero here rest P F h f = absurd h
 by_turn Down (suc d) here rest P F h f = f d h
 
-past_own : (k d : ℕ) (own more : List Glyph) (P : ℕ → Type 0) → ends_in_tag own ≡ false → GoesOn (depth_past k d own) P → ((e : ℕ) → P e → partner k e more ≡ None)
+past_own : (k d : ℕ) (own more : List Glyph) (P : ℕ → Type 0) → tag_goes_on own ≡ false → GoesOn (depth_past k d own) P → ((e : ℕ) → P e → partner k e more ≡ None)
     → partner k d (own ++ more) ≡ None
 past_own k d [] more P e h f = f d h
 past_own k d (g ∷ own) more P e h f =
-    let z = neither (in_class (class.Only 60) g && is_open_tag own) (ends_in_tag own) e in
+    let z = neither (in_class (class.Only 60) g && may_go_on own) (tag_goes_on own) e in
     ap (λ (o : Option Tag). by_tag (turn_of_tag k o) d (g ∷ (own ++ more)) (λ i. partner k i (own ++ more))) (here_same g own more z.0)
     ∙ by_turn (tag_turn k (g ∷ own)) d (g ∷ (own ++ more)) (λ i. depth_past k i own) P (λ i. partner k i (own ++ more)) h
     (λ i j. past_own k i own more P z.1 j f)

@@ -1,5 +1,6 @@
 mod Cases
 mod LineCases
+mod HeadingCases
 pub mod Commented
 pub mod Uncommented
 pub mod Unjoined

@@ -107,6 +107,13 @@ open_tag = refl
 ended_tag : ends_in_tag (byte_glyphs (codes "[http://x <small> a]")) ≡ false
 ended_tag = refl
 
+-- a closing tag can't go on there, and without the comment the bytes tell the tag
+closing_there : ends_in_tag (byte_glyphs (codes "[http://x </small ") ++ (glyph.Mark ∷ byte_glyphs (codes " a]"))) ≡ false
+closing_there = refl
+
+told_by_bytes : ends_in_tag (byte_glyphs (codes "[http://x <small  a]")) ≡ false
+told_by_bytes = refl
+
 no_tag_there : ends_in_tag (byte_glyphs (codes "[[a|b < c]]")) ≡ false
 no_tag_there = refl
 

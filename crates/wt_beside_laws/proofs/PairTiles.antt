@@ -16,7 +16,7 @@ use Rattle.wt_tiles.specs.Glyphs.{in_class, is_in, first_is, run_len, begins}
 use Rattle.wt_tiles.specs.Partners.{DepthChange, Up, Down, Level, turn_of_tag, tag_turn, by_tag, partner}
 use Rattle.wt_tiles.specs.Tags.{name_len, name_of, tag_of, is_inside, shape_of, tag_after, opening_tag, closing_tag, tag_at}
 use Rattle.wt_tiles.proofs.TagInsides.{no_tag}
-use Rattle.wt_beside_laws.specs.OpenTags.{has_stop, is_open_tag}
+use Rattle.wt_beside_laws.specs.OpenTags.{has_other, has_stop}
 use Rattle.wt_beside_laws.proofs.LinkTiles.{first_stays}
 use Rattle.wt_beside_laws.proofs.TagFronts.{tag_front}
 use Rattle.wt_beside_laws.proofs.TagTiles.{tag_stays, name_stays, no_opening}
@@ -73,34 +73,40 @@ blank_of_tags glyph.Mark e = refl
 tag_of_tags : IsOfTags class.Tag
 tag_of_tags g e = e
 
--- a run of such a class ends before one that may not
-run_ends : (k : GlyphClass) (gs : List Glyph) → IsOfTags k → has_stop gs ≡ true → (run_len k gs < length gs) × (has_stop (drop (run_len k gs) gs) ≡ true)
-run_ends k [] f e = cc
-run_ends k (g ∷ gs) f e = ends_by (in_class k g) refl (λ z. run_ends k gs f z)
-  where
-    tail_stop : in_class k g ≡ true → has_stop gs ≡ true
-    tail_stop i = ap (λ (v : Bool). not v || has_stop gs) (sym (f g i)) ∙ e
+-- of a class of which each item passes a test
+abbrev Passes : (Glyph → Bool) → GlyphClass → Type 0
+Passes p k = (g : Glyph) → in_class k g ≡ true → p g ≡ true
 
-    ends_by : (v : Bool) → in_class k g ≡ v → (has_stop gs ≡ true → (run_len k gs < length gs) × (has_stop (drop (run_len k gs) gs) ≡ true))
-        → (run_len k (g ∷ gs) < length (g ∷ gs)) × (has_stop (drop (run_len k (g ∷ gs)) (g ∷ gs)) ≡ true)
+-- a run of such a class ends before one that doesn't
+run_ends : (p : Glyph → Bool) (k : GlyphClass) (gs : List Glyph) → Passes p k → has_other p gs ≡ true
+    → (run_len k gs < length gs) × (has_other p (drop (run_len k gs) gs) ≡ true)
+run_ends p k [] f e = cc
+run_ends p k (g ∷ gs) f e = ends_by (in_class k g) refl (λ z. run_ends p k gs f z)
+  where
+    tail_other : in_class k g ≡ true → has_other p gs ≡ true
+    tail_other i = ap (λ (v : Bool). not v || has_other p gs) (sym (f g i)) ∙ e
+
+    ends_by : (v : Bool) → in_class k g ≡ v → (has_other p gs ≡ true → (run_len k gs < length gs) × (has_other p (drop (run_len k gs) gs) ≡ true))
+        → (run_len k (g ∷ gs) < length (g ∷ gs)) × (has_other p (drop (run_len k (g ∷ gs)) (g ∷ gs)) ≡ true)
     ends_by true i h =
-        let r = h (tail_stop i) in
+        let r = h (tail_other i) in
         let lt : run_len k gs < length gs = r.0 in
         let is : run_len k (g ∷ gs) ≡ suc (run_len k gs) = ap (λ (v : Bool). if v then 1 + run_len k gs else 0) i ∙ omega arith in
-        (omega (arith, is, lt), ap (λ (n : ℕ). has_stop (drop n (g ∷ gs))) is ∙ r.1)
+        (omega (arith, is, lt), ap (λ (n : ℕ). has_other p (drop n (g ∷ gs))) is ∙ r.1)
     ends_by false i h =
         let is : run_len k (g ∷ gs) ≡ 0 = ap (λ (v : Bool). if v then 1 + run_len k gs else 0) i in
-        (omega (arith, is), ap (λ (n : ℕ). has_stop (drop n (g ∷ gs))) is ∙ e)
+        (omega (arith, is), ap (λ (n : ℕ). has_other p (drop n (g ∷ gs))) is ∙ e)
 
-name_ends : (gs : List Glyph) → has_stop gs ≡ true → (name_len gs < length gs) × (has_stop (drop (name_len gs) gs) ≡ true)
-name_ends gs e = ends_by (first_is class.Letter gs)
+name_ends : (p : Glyph → Bool) (gs : List Glyph) → Passes p class.Name → has_other p gs ≡ true
+    → (name_len gs < length gs) × (has_other p (drop (name_len gs) gs) ≡ true)
+name_ends p gs f e = ends_by (first_is class.Letter gs)
   where
-    some : (hs : List Glyph) → has_stop hs ≡ true → 0 < length hs
+    some : (hs : List Glyph) → has_other p hs ≡ true → 0 < length hs
     some [] z = cc
     some (h ∷ hs) z = omega arith
 
-    ends_by : (v : Bool) → ((if v then run_len class.Name gs else 0) < length gs) × (has_stop (drop (if v then run_len class.Name gs else 0) gs) ≡ true)
-    ends_by true = run_ends class.Name gs name_of_tags e
+    ends_by : (v : Bool) → ((if v then run_len class.Name gs else 0) < length gs) × (has_other p (drop (if v then run_len class.Name gs else 0) gs) ≡ true)
+    ends_by true = run_ends p class.Name gs f e
     ends_by false = (some gs e, e)
 
 -- ---- a tag that begins before it is the same whatever is read behind
@@ -112,7 +118,7 @@ after_same : (name us rest : List Glyph) → has_stop us ≡ true → tag_after 
 unfolding tag_after
 after_same name us rest e =
     let r : ℕ = run_len class.Tag us in
-    let lt : r < length us = (run_ends class.Tag us tag_of_tags e).0 in
+    let lt : r < length us = (run_ends (in_class class.Tag) class.Tag us tag_of_tags e).0 in
     let left : length (drop r us) ≡ length us - r = length-drop r us in
     ap (λ (i : ℕ). tag_inside name (first_is (class.Only 62) (drop i (us ++ rest))) (take i (us ++ rest))) (run_within class.Tag us rest lt)
     ∙ ap₂ (λ (v : Bool) (xs : List Glyph). tag_inside name v xs)
@@ -123,7 +129,7 @@ opening_same : (g : Glyph) (hs rest : List Glyph) → has_stop hs ≡ true → o
 unfolding opening_tag
 opening_same g hs rest e =
     let n : ℕ = name_len hs in
-    let m = name_ends hs e in
+    let m = name_ends (in_class class.Tag) hs name_of_tags e in
     let lt : n < length hs = m.0 in
     let us : List Glyph = drop (1 + n) (g ∷ hs) in
     let z : 1 + n ≡ suc n = omega arith in
@@ -136,19 +142,20 @@ opening_same g hs rest e =
 abbrev closing_by : Bool → ℕ → ℕ → List Glyph → Bool → Option Tag
 closing_by first n k name ends = if first && (nat_lt 0 n && ends) then tag_of Closing (3 + n + k) (name_of name) else None
 
-closing_same : (a b : Glyph) (hs rest : List Glyph) → has_stop hs ≡ true → closing_tag (a ∷ b ∷ (hs ++ rest)) ≡ closing_tag (a ∷ b ∷ hs)
+closing_same : (p : Glyph → Bool) (a b : Glyph) (hs rest : List Glyph) → Passes p class.Name → Passes p class.Blank → has_other p hs ≡ true
+    → closing_tag (a ∷ b ∷ (hs ++ rest)) ≡ closing_tag (a ∷ b ∷ hs)
 unfolding closing_tag
-closing_same a b hs rest e =
+closing_same p a b hs rest names spaces e =
     let gs : List Glyph = a ∷ b ∷ hs in
     let all : List Glyph = a ∷ b ∷ (hs ++ rest) in
     let n : ℕ = name_len hs in
-    let m = name_ends hs e in
+    let m = name_ends p hs names e in
     let lt : n < length hs = m.0 in
     let z : 2 + n ≡ suc (suc n) = omega arith in
     let us : List Glyph = drop (2 + n) gs in
-    let stop : has_stop us ≡ true = ap (λ (i : ℕ). has_stop (drop i gs)) z ∙ m.1 in
+    let stop : has_other p us ≡ true = ap (λ (i : ℕ). has_other p (drop i gs)) z ∙ m.1 in
     let k : ℕ = run_len class.Blank us in
-    let r = run_ends class.Blank us blank_of_tags stop in
+    let r = run_ends p class.Blank us spaces stop in
     let short : k < length us = r.0 in
     let left : length us ≡ length gs - (2 + n) = length-drop (2 + n) gs in
     let end : length (drop (2 + n + k) gs) ≡ length gs - (2 + n + k) = length-drop (2 + n + k) gs in
@@ -189,7 +196,7 @@ closing_here a b hs rest e = here_by (in_class class.Tag b) refl e
   where
     here_by : (v : Bool) → in_class class.Tag b ≡ v → (not v || has_stop hs) ≡ true → closing_tag (a ∷ b ∷ (hs ++ rest)) ≡ closing_tag (a ∷ b ∷ hs)
     here_by false i z = no_slash a b (hs ++ rest) (stop_slash b i) ∙ sym (no_slash a b hs (stop_slash b i))
-    here_by true i z = closing_same a b hs rest z
+    here_by true i z = closing_same (in_class class.Tag) a b hs rest name_of_tags blank_of_tags z
 
 stop_same : (g : Glyph) (hs rest : List Glyph) → has_stop hs ≡ true → tag_at (g ∷ (hs ++ rest)) ≡ tag_at (g ∷ hs)
 unfolding tag_at
@@ -204,17 +211,48 @@ no_tag_at : (g h : Glyph) (hs : List Glyph) → in_class class.Letter h ≡ fals
 unfolding tag_at
 no_tag_at g h hs e f = ap₂ (λ (a b : Option Tag). option_or a b) (no_opening g h hs e) (no_slash g h hs f)
 
+-- ---- a tag that may go on
+
+-- in a closing tag, behind its `/`
+abbrev pub is_closing_glyph : Glyph → Bool
+is_closing_glyph g = in_class class.Name g || in_class class.Blank g
+
+names_close : Passes is_closing_glyph class.Name
+names_close g e = ap (λ (v : Bool). v || in_class class.Blank g) e
+
+blanks_close : Passes is_closing_glyph class.Blank
+blanks_close g e = or_right (in_class class.Name g) (in_class class.Blank g) e
+
+-- Behind a `<`: nothing, or what may be the rest of a tag, that of an opening one that isn't ended, or a `/`, a name and blanks.
+abbrev pub may_go_on : List Glyph → Bool
+may_go_on [] = true
+may_go_on (g ∷ gs) = (in_class class.Letter g && not (has_stop (g ∷ gs))) || (in_class (class.Only 47) g && not (has_other is_closing_glyph gs))
+
+-- such a tag may go on behind these
+abbrev pub tag_goes_on : List Glyph → Bool
+tag_goes_on [] = false
+tag_goes_on (g ∷ gs) = (in_class (class.Only 60) g && may_go_on gs) || tag_goes_on gs
+
+closing_whole : (g h : Glyph) (hs rest : List Glyph) → in_class class.Letter h ≡ false → has_other is_closing_glyph hs ≡ true
+    → tag_at (g ∷ h ∷ (hs ++ rest)) ≡ tag_at (g ∷ h ∷ hs)
+unfolding tag_at
+closing_whole g h hs rest e f =
+    ap₂ (λ (a b : Option Tag). option_or a b) (no_opening g h (hs ++ rest) e ∙ sym (no_opening g h hs e))
+    (closing_same is_closing_glyph g h hs rest names_close blanks_close f)
+
 -- nothing behind it makes it another one
-pub tag_whole : (g : Glyph) (hs rest : List Glyph) → is_open_tag hs ≡ false → tag_at (g ∷ (hs ++ rest)) ≡ tag_at (g ∷ hs)
+pub tag_whole : (g : Glyph) (hs rest : List Glyph) → may_go_on hs ≡ false → tag_at (g ∷ (hs ++ rest)) ≡ tag_at (g ∷ hs)
 tag_whole g [] rest e = cc
-tag_whole g (h ∷ hs) rest e = whole_by (in_class class.Letter h) (in_class (class.Only 47) h) (has_stop (h ∷ hs)) refl refl refl e
+tag_whole g (h ∷ hs) rest e =
+    whole_by (in_class class.Letter h) (in_class (class.Only 47) h) (has_stop (h ∷ hs)) (has_other is_closing_glyph hs) refl refl refl refl e
   where
-    whole_by : (u v w : Bool) → in_class class.Letter h ≡ u → in_class (class.Only 47) h ≡ v → has_stop (h ∷ hs) ≡ w → ((u || v) && not w) ≡ false
-        → tag_at (g ∷ h ∷ (hs ++ rest)) ≡ tag_at (g ∷ h ∷ hs)
-    whole_by u v true i j k z = stop_same g (h ∷ hs) rest k
-    whole_by false false false i j k z = no_tag_at g h (hs ++ rest) i j ∙ sym (no_tag_at g h hs i j)
-    whole_by true v false i j k z = cc
-    whole_by false true false i j k z = cc
+    whole_by : (u v w x : Bool) → in_class class.Letter h ≡ u → in_class (class.Only 47) h ≡ v → has_stop (h ∷ hs) ≡ w → has_other is_closing_glyph hs ≡ x
+        → ((u && not w) || (v && not x)) ≡ false → tag_at (g ∷ h ∷ (hs ++ rest)) ≡ tag_at (g ∷ h ∷ hs)
+    whole_by u v true x i j k l z = stop_same g (h ∷ hs) rest k
+    whole_by true v false x i j k l z = cc
+    whole_by false false false x i j k l z = no_tag_at g h (hs ++ rest) i j ∙ sym (no_tag_at g h hs i j)
+    whole_by false true false true i j k l z = closing_whole g h hs rest i l
+    whole_by false true false false i j k l z = cc
 
 -- ---- the closing tag that balances
 

@@ -1,7 +1,9 @@
 -- What a bare URL shows: the text of its items.
-use Rattle.std.proofs.Common.{arith, ◌≡◌, ℕ, suc, ◌+◌, ◌-◌, ◌≤◌, Bool, true, false, Option, Some, List, [], ◌∷◌, ◌++◌, length, map, take, drop, refl, sym, ap, ◌∙◌, subst, take_all}
+use Rattle.std.proofs.Common.{arith, ◌≡◌, ℕ, suc, ◌+◌, ◌-◌, ◌≤◌, ◌==◌, Bool, true, false, Option, Some, List, [], ◌∷◌, ◌++◌, length, map, take, drop, refl, sym, ap, ◌∙◌, subst, take_all}
 use Rattle.std.specs.Prelude.{◌&&◌, not, codes, encode_utf8, if◌then◌else◌}
+use Rattle.std.specs.Char.{to_ascii_lowercase}
 use Rattle.std.specs.List.{flat_map}
+use Rattle.std.proofs.lemmas.Bool.Decides.{nat_tests}
 use Rattle.std.proofs.lemmas.List.{length-drop, take-append-drop}
 use Rattle.wt_span.specs.Items.{Item, char, whole}
 use Rattle.wt_span.specs.declared.form.ItemForm.TheVariants as form
@@ -18,7 +20,7 @@ use Rattle.wt_tiles.specs.declared.shape.Shape.{Shape}
 use Rattle.wt_tiles.specs.Glyphs.{glyph_of, begins, like_byte, begins_like}
 use Rattle.wt_tiles.specs.Links.{text_of}
 use Rattle.wt_tiles.specs.Tiles.{size}
-use Rattle.wt_tiles.specs.Urls.{scheme_len, is_url_glyph, url_run, url_items, kept_len, bare_shape, bare_url_at}
+use Rattle.wt_tiles.specs.Urls.{scheme_len, is_url_char, is_url_glyph, url_run, url_items, kept_len, bare_shape, bare_url_at}
 use Rattle.wt_tiles.proofs.UrlFits.{scheme_fits, url_items_len, kept_le}
 use Rattle.wt_context.specs.Heads.{bare_url_head}
 use Rattle.wt_context.specs.Nodes.{opening_of, inside_of, bare_url}
@@ -30,10 +32,10 @@ use Rattle.wt_original.specs.Kept.{shown, shown_in}
 use Rattle.wt_beside_laws.proofs.PartThings.{nodes_of}
 use Rattle.wt_beside_laws.proofs.UrlTiles.{both_some}
 
--- ---- its items are characters and references
+-- ---- its items are characters, none of them a `<`, and references
 
 abbrev pub IsTextual : Glyph → Type 0
-IsTextual (glyph.Byte b) = Unit {0}
+IsTextual (glyph.Byte b) = (b == 60) ≡ false
 IsTextual (glyph.Entity c) = Unit {0}
 IsTextual glyph.Atom = ⊥
 IsTextual glyph.Mark = ⊥
@@ -46,8 +48,12 @@ both_textual : (xs ys : List Glyph) → AreTextual xs → AreTextual ys → AreT
 both_textual [] ys h k = k
 both_textual (x ∷ xs) ys h k = (h.0, both_textual xs ys h.1 k)
 
+url_less : (b : ℕ) → is_url_char b ≡ true → (b == 60) ≡ false
+unfolding is_url_char
+url_less b e = grind (arith, nat_tests, e)
+
 url_textual : (g : Glyph) → is_url_glyph g ≡ true → IsTextual g
-url_textual (glyph.Byte b) e = tt
+url_textual (glyph.Byte b) e = url_less b e
 url_textual (glyph.Entity c) e = tt
 url_textual glyph.Atom e = cc
 url_textual glyph.Mark e = cc
@@ -61,20 +67,27 @@ run_textual (g ∷ gs) le = by (is_url_glyph g) (not (begins (codes "''") (g ∷
     by true false e far f = absurd (omega (arith, far))
     by false q e far f = absurd (omega (arith, far))
 
-like_textual : (b : ℕ) (g : Glyph) → like_byte b g ≡ true → IsTextual g
-like_textual b (glyph.Byte c) e = tt
-like_textual b (glyph.Entity c) e = tt
-like_textual b glyph.Atom e = cc
-like_textual b glyph.Mark e = cc
+like_less : (b c : ℕ) → (b == 60) ≡ false → (to_ascii_lowercase c == b) ≡ true → (c == 60) ≡ false
+like_less b c f e = grind (arith, nat_tests, e, f)
+
+like_textual : (b : ℕ) (g : Glyph) → (b == 60) ≡ false → like_byte b g ≡ true → IsTextual g
+like_textual b (glyph.Byte c) f e = like_less b c f e
+like_textual b (glyph.Entity c) f e = tt
+like_textual b glyph.Atom f e = cc
+like_textual b glyph.Mark f e = cc
+
+abbrev LacksLess : List ℕ → Type 0
+LacksLess [] = Unit {0}
+LacksLess (b ∷ bs) = ((b == 60) ≡ false) × LacksLess bs
 
 and_both : (u v : Bool) → (u && v) ≡ true → (u ≡ true) × (v ≡ true)
 and_both true v e = (refl, e)
 and_both false v e = cc
 
-word_textual : (word : List ℕ) (gs : List Glyph) → begins_like word gs ≡ true → AreTextual (take (length word) gs)
-word_textual [] gs e = tt
-word_textual (b ∷ word) [] e = cc
-word_textual (b ∷ word) (g ∷ gs) e = let r = and_both (like_byte b g) (begins_like word gs) e in (like_textual b g r.0, word_textual word gs r.1)
+word_textual : (word : List ℕ) (gs : List Glyph) → LacksLess word → begins_like word gs ≡ true → AreTextual (take (length word) gs)
+word_textual [] gs h e = tt
+word_textual (b ∷ word) [] h e = cc
+word_textual (b ∷ word) (g ∷ gs) h e = let r = and_both (like_byte b g) (begins_like word gs) e in (like_textual b g h.0 r.0, word_textual word gs h.1 r.1)
 
 scheme_textual : (gs : List Glyph) → AreTextual (take (scheme_len gs) gs)
 unfolding scheme_len
@@ -82,9 +95,9 @@ scheme_textual gs = by (begins_like (codes "http://") gs) (begins_like (codes "h
   where
     by : (a b c : Bool) → begins_like (codes "http://") gs ≡ a → begins_like (codes "https://") gs ≡ b → begins_like (codes "ftp://") gs ≡ c
         → AreTextual (take (if a then 7 else (if b then 8 else (if c then 6 else 0))) gs)
-    by true b c e f g = word_textual (codes "http://") gs e
-    by false true c e f g = word_textual (codes "https://") gs f
-    by false false true e f g = word_textual (codes "ftp://") gs g
+    by true b c e f g = word_textual (codes "http://") gs (refl, (refl, (refl, (refl, (refl, (refl, (refl, tt))))))) e
+    by false true c e f g = word_textual (codes "https://") gs (refl, (refl, (refl, (refl, (refl, (refl, (refl, (refl, tt)))))))) f
+    by false false true e f g = word_textual (codes "ftp://") gs (refl, (refl, (refl, (refl, (refl, (refl, tt)))))) g
     by false false false e f g = tt
 
 -- a URL that takes all of some items

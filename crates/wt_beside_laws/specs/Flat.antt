@@ -39,7 +39,7 @@ pub record IsReadIn (s : Setting) (signs : List ContentSign) : Type 0 where
   pub kept : AreKept signs
   pub nodes : AreNodes signs
   pub unjoined : AllUnjoined s [] signs
-  pub led : AreMarksLed signs
+  pub led : AreMarksLed s.place signs
 
 -- Such a content of a paragraph or a heading: text that is typed, and nodes that stay, each read so whatever is written behind it, on one line
 -- each, and beside each other as they may stand in a page.
@@ -50,7 +50,7 @@ pub record IsFlatContent (s : Setting) (signs : List ContentSign) : Type 0 where
   pub nodes : AreNodes signs
   pub unbroken : AreUnbroken signs
   pub flat : AreFlat signs
-  pub led : AreMarksLed signs
+  pub led : AreMarksLed s.place signs
   pub meet : AllMeet s [] signs []
 
 -- ---- what it is

@@ -11,7 +11,8 @@ use Rattle.wt_expand.specs.PageItems.{page_items}
 use Rattle.wt_lines.specs.Lines.{lines}
 use Rattle.wt_content.specs.Content.{has_break}
 use Rattle.wt_typed_blocks.specs.Edited.{Pieces, no_pieces, gone, written, kept, around, new_style, page_pieces, sent_pieces, PiecesStay}
-use Rattle.wt_text_edit_laws.specs.TextBlocks.{TextBlock, a_paragraph, a_heading}
+use Rattle.wt_typed_blocks.specs.Typed.{place_of}
+use Rattle.wt_text_edit_laws.specs.TextBlocks.{TextBlock, a_paragraph, a_heading, block_of}
 use Rattle.wt_text_edit_laws.specs.TypedHeadings.{opening}
 use Rattle.wt_visible.specs.SameNodes.{same_node}
 use Rattle.wt_beside_laws.specs.FlatPages.{AreNodesAndTexts}
@@ -79,5 +80,5 @@ pub record IsFlatEditOf (k : TextBlock) (block : Tree) (ps : Pieces) : Type 0 wh
   pub are : AreNodesAndTexts ps
   pub fit : TextsFitIn k ps
   pub plain : HaveNoStyle ps
-  pub led : AreMarksLed (signs_of (sent_for block ps))
+  pub led : AreMarksLed (place_of (block_of k)) (signs_of (sent_for block ps))
   pub unclosed : KeepsOpen (signs_of (sent_for block ps))

@@ -89,7 +89,7 @@ pub record IsFlatEdit (q : List ℕ) (ps : Pieces) : Type 0 where
   pub stay : PiecesStay ps
   pub go : OnlyTextsGo ps
   pub are : AreNodesAndTexts ps
-  pub led : AreMarksLed (new_signs q ps)
+  pub led : AreMarksLed place.Paragraph (new_signs q ps)
   pub unclosed : KeepsOpen (new_signs q ps)
 
 -- ---- without marks

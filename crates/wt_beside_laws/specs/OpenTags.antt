@@ -4,21 +4,29 @@ use Rattle.wt_span.specs.Characters as byte
 use Rattle.wt_guards.specs.Content.{ContentSign, Thing, letter, thing}
 use Rattle.wt_tiles.specs.declared.glyph.Glyph.{Glyph}
 use Rattle.wt_tiles.specs.declared.glyph.GlyphClass.TheVariants as class
-use Rattle.wt_tiles.specs.Glyphs.{in_class}
+use Rattle.wt_tiles.specs.Glyphs.{is_in, in_class}
 use Rattle.wt_beside_laws.specs.Cuts.{own_glyphs}
 use Rattle.wt_beside_laws.specs.Nodes.{OpensNoPair}
 
 -- ---- a node
 
+-- some item fails a test
+abbrev pub has_other : (Glyph → Bool) → List Glyph → Bool
+has_other test [] = false
+has_other test (g ∷ gs) = not (test g) || has_other test gs
+
 -- some item may be in no tag: a `<`, a `>`, a line break, or a nowiki
 abbrev pub has_stop : List Glyph → Bool
-has_stop [] = false
-has_stop (g ∷ gs) = not (in_class class.Tag g) || has_stop gs
+has_stop gs = has_other (in_class class.Tag) gs
 
--- behind a `<`: nothing, or what may be the rest of a tag that isn't ended
+-- some item is no character: of those in a tag a mark (a comment, an include tag, a hidden part) or a reference
+abbrev pub has_hidden : List Glyph → Bool
+has_hidden gs = has_other (is_in (λ b. true)) gs
+
+-- Behind a `<`: a tag's name begins, and nothing ends the tag. Something is hidden in it: with characters alone its bytes tell it, and its block is tangled.
 abbrev pub is_open_tag : List Glyph → Bool
-is_open_tag [] = true
-is_open_tag (g ∷ gs) = (in_class class.Letter g || in_class (class.Only byte.slash) g) && not (has_stop (g ∷ gs))
+is_open_tag [] = false
+is_open_tag (g ∷ gs) = in_class class.Letter g && (not (has_stop (g ∷ gs)) && has_hidden gs)
 
 abbrev pub ends_in_tag : List Glyph → Bool
 ends_in_tag [] = false

@@ -1,4 +1,4 @@
--- A block of the page in which a line of comments stands only where a line begins: behind a line break, behind another such line, or at its start.
+-- A block of the page in which a line of comments stands only where a line of it begins: behind a line break, or behind another such line.
 use Rattle.std.specs.Prelude.{◌≡◌, ℕ, ◌+◌, ◌<◌, ◌==◌, Bool, true, false, nat_eq, Some, List, [], ◌∷◌, length}
 use Rattle.std.specs.List.{ends_with}
 use Rattle.wt_span.specs.Characters as byte

@@ -70,7 +70,7 @@ pub record IsStyledContent (s : Setting) (t : StyledContent) : Type 0 where
   pub nodes : AreNodes (signs_in t)
   pub unbroken : AreUnbroken (signs_in t)
   pub nested : AreNested false false t
-  pub led : AreMarksLed (signs_in t)
+  pub led : AreMarksLed s.place (signs_in t)
   pub meet : AllMeet s [] (signs_in t) []
 
 -- ---- what it is

@@ -14,7 +14,8 @@ use Rattle.wt_part_laws.specs.Rounded.{AllHaveItems}
 use Rattle.wt_typed_blocks.specs.Edited.{Pieces, page_pieces, PiecesStay}
 use Rattle.wt_text_edit_laws.specs.Contents.{IsContentOf, content_parts_of}
 use Rattle.wt_text_edit_laws.specs.NoCalls.{CallsNothing}
-use Rattle.wt_text_edit_laws.specs.TextBlocks.{TextBlock, a_paragraph, a_heading, source_of, block_items}
+use Rattle.wt_typed_blocks.specs.Typed.{place_of}
+use Rattle.wt_text_edit_laws.specs.TextBlocks.{TextBlock, a_paragraph, a_heading, block_of, source_of, block_items}
 use Rattle.wt_beside_laws.specs.Calm.{AreUtf8Nodes}
 use Rattle.wt_beside_laws.specs.Content.{AreKept}
 use Rattle.wt_beside_laws.specs.FlatBlocks.{lines_in, signs_in as signs_of, TextsFitIn, sent_for}
@@ -50,9 +51,9 @@ pub record IsFlatIn (k : TextBlock) (q : List ℕ) : Type 0 where
 
 -- ---- what is written for it
 
--- in a heading it is on one line
+-- it is spelled for such a block, and in a heading it is on one line
 abbrev pub StaysIn : TextBlock → Setting → StyledContent → Type 0
-StaysIn a_paragraph s t = Unit {0}
+StaysIn a_paragraph s t = s.place ≡ place.Paragraph
 StaysIn (a_heading h) s t = (s.place ≡ place.Heading) × AreOnOneLine (signs_in t)
 
 -- nodes that it had, in their order, with any texts and styles
@@ -72,5 +73,5 @@ pub record IsStyledEditOf (k : TextBlock) (block : Tree) (ps : Pieces) : Type 0 
   pub are : AreNodesAndTexts ps
   pub fit : TextsFitIn k ps
   pub new : NewStylesNest false false ps
-  pub led : AreMarksLed (signs_in (sent_for block ps))
+  pub led : AreMarksLed (place_of (block_of k)) (signs_in (sent_for block ps))
   pub unclosed : KeepsOpen (signs_in (sent_for block ps))

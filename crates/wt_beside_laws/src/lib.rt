@@ -51,6 +51,7 @@ ghost use Rattle.wt_tree.specs.Tree.{Label, Tree as Block, tree, Trees, label};
 ghost use Rattle.wt_content.specs.Content.{is_paragraph, bad_content};
 ghost use Rattle.wt_typed_blocks.specs.Edited.{Pieces, page_pieces, sent_pieces, PiecesStay, pieces_before};
 ghost use Rattle.wt_tree.specs.declared.edit_shape.Place.{Place as Where};
+ghost use Rattle.wt_tree.specs.declared.edit_shape.Place.TheVariants as place;
 ghost use Rattle.wt_original.specs.Page.{Page as Known, page_of, TellsSame};
 ghost use Rattle.wt_link_spelling.specs.Spelling.{signs_of_all, children_of};
 ghost use Rattle.wt_beside_laws.specs.OwnSigns.{own_signs, IsFlatBlock};
@@ -186,7 +187,7 @@ pub fn nodes_sent_are_those_of_the_page()
 #[tactic(auto, using(crate::proofs::FlatContents::flat_content))]
 pub fn texts_beside_nodes_of_the_page_are_flat()
     ensures { (s : Setting) (ls : List (List Item)) (at : ℕ) (signs : List ContentSign) → s.within ≡ false → AreFlatLines ls
-        → AreKept (signs_of_lines at ls) → AreCharacters signs → AreMarksLed signs → things signs ≡ things (signs_of_lines at ls) → AllStayOpen s [] signs
+        → AreKept (signs_of_lines at ls) → AreCharacters signs → AreMarksLed s.place signs → things signs ≡ things (signs_of_lines at ls) → AllStayOpen s [] signs
         → IsFlatContent s signs }
 {}
 
@@ -228,7 +229,7 @@ pub fn texts_sent_beside_nodes_are_flat()
     ensures { (same : Block → Block → Bool) (s : Setting) (pl : Where) (ls : List (List Item)) (block : Block) (news : Trees) → TellsSame same → s.within ≡ false
         → AreFlatLines ls → AreUnstyled ls → IsBlockOfLines ls block → AreKept (signs_of_lines (length (label block).opening) ls)
         → AreSent (page_of same block) news → numbers news ≡ numbers (children_of block) → AreCharacters (signs_of_all (page_of same block) pl news)
-        → AreMarksLed (signs_of_all (page_of same block) pl news) → AllStayOpen s [] (signs_of_all (page_of same block) pl news) → IsFlatContent s (signs_of_all (page_of same block) pl news) }
+        → AreMarksLed s.place (signs_of_all (page_of same block) pl news) → AllStayOpen s [] (signs_of_all (page_of same block) pl news) → IsFlatContent s (signs_of_all (page_of same block) pl news) }
 {}
 
 /// What is written for such a content is again lines of a page of which the content may be: its lines are flat (`AreFlatLines`), no
@@ -244,7 +245,7 @@ pub fn contents_beside_nodes_are_flat_again()
 /// is typed, and no node, makes it a heading, a list, a rule, preformatted text or a part of a table, and none is blank.
 pub fn texts_beside_nodes_are_lines_of_text()
     ensures lines { (s : Setting) (signs : List ContentSign) → IsReadIn s signs → AreUnbroken signs → lines (page_items (spelled s signs)) ≡ content_lines s signs }
-    ensures text { (tables : ℕ) (s : Setting) (signs : List ContentSign) → s.within ≡ false → BeginsUnled signs → AreCharacters signs → AreNodes signs
+    ensures text { (tables : ℕ) (s : Setting) (signs : List ContentSign) → s.within ≡ false → BeginsUnled place.Paragraph signs → AreCharacters signs → AreNodes signs
         → AreLinesOfText tables (content_lines s signs) }
 {}
 
@@ -255,9 +256,9 @@ pub fn texts_beside_nodes_are_lines_of_text()
 pub fn texts_beside_nodes_are_one_paragraph()
     ensures line { (s : Setting) (before signs : List ContentSign) → AreNodes signs → AreFlat signs → AllMeet s before signs []
         → line_parts (line_items s before signs) ≡ line_content s before signs }
-    ensures paragraph { (s : Setting) (signs : List ContentSign) → IsFlatContent s signs
+    ensures paragraph { (s : Setting) (signs : List ContentSign) → s.place ≡ place.Paragraph → IsFlatContent s signs
         → para (rows (page_items (spelled s signs))) ≡ para_with (content_parts s [] signs) }
-    ensures page { (s : Setting) (signs : List ContentSign) → IsFlatContent s signs
+    ensures page { (s : Setting) (signs : List ContentSign) → s.place ≡ place.Paragraph → IsFlatContent s signs
         → meaning (page_items (spelled s signs)) ≡ body_with (para_with (content_parts s [] signs) ∷ []) }
 {}
 
@@ -285,8 +286,8 @@ pub fn texts_beside_nodes_may_be_in_headings()
 /// those that what is before it and what is behind it make by themselves, whatever is typed in it.
 #[tactic(auto, using(crate::proofs::Styled::Plain::paragraph_stands, crate::proofs::Styled::Plain::heading_stands))]
 pub fn texts_beside_nodes_stand_between_lines()
-    ensures paragraph { (before : List Item) (s : Setting) (signs : List ContentSign) (tail : List Item) → EndsApart before → IsFlatContent s signs
-        → EndsParagraph tail
+    ensures paragraph { (before : List Item) (s : Setting) (signs : List ContentSign) (tail : List Item) → EndsApart before → s.place ≡ place.Paragraph
+        → IsFlatContent s signs → EndsParagraph tail
         → meaning (before ++ (page_items (spelled s signs) ++ tail))
         ≡ body_with (blocks_in before ++ para_with (content_parts s [] signs) ∷ blocks_in tail) }
     ensures heading { (before : List Item) (s : Setting) (signs : List ContentSign) (sides : Sides) (tail : List Item)

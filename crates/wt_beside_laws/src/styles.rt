@@ -3,6 +3,7 @@
 ghost use Rattle.std.specs.Prelude.{◌≡◌, ℕ, ◌+◌, ◌<◌, Bool, true, false, List, [], ◌∷◌, ◌++◌, length};
 ghost use Rattle.wt_span.specs.Items.{Item};
 ghost use Rattle.wt_tree.specs.declared.edit_shape.Place.{Place as Where};
+ghost use Rattle.wt_tree.specs.declared.edit_shape.Place.TheVariants as place;
 ghost use Rattle.wt_tree.specs.Plain.{Plains, plains_before};
 ghost use Rattle.wt_tree.specs.Tree.{Label, Tree, Trees, label};
 ghost use Rattle.wt_guards.specs.Content.{ContentSign};
@@ -78,9 +79,9 @@ pub fn lines_with_styles_have_even_toggles()
 pub fn texts_in_styles_are_one_paragraph()
     ensures line { (s : Setting) (before : List ContentSign) (t : StyledContent) → AreNodes (signs_in t) → AreNested false false t → AllMeet s before (signs_in t) []
         → line_parts (line_items s before (signs_in t)) ≡ styled_parts true s before t [] }
-    ensures paragraph { (s : Setting) (t : StyledContent) → IsStyledContent s t
+    ensures paragraph { (s : Setting) (t : StyledContent) → s.place ≡ place.Paragraph → IsStyledContent s t
         → para (rows (page_items (spelled s (signs_in t)))) ≡ para_with (styled_parts false s [] t []) }
-    ensures page { (s : Setting) (t : StyledContent) → IsStyledContent s t
+    ensures page { (s : Setting) (t : StyledContent) → s.place ≡ place.Paragraph → IsStyledContent s t
         → meaning (page_items (spelled s (signs_in t))) ≡ body_with (para_with (styled_parts false s [] t []) ∷ []) }
 {}
 
@@ -95,7 +96,8 @@ pub fn texts_in_styles_are_shown()
 /// Between other lines of a page such a content is one paragraph of the body, or a heading: the body's other children are those that what is
 /// before it and what is behind it make by themselves, whatever is typed in it.
 pub fn texts_in_styles_stand_between_lines()
-    ensures paragraph { (before : List Item) (s : Setting) (t : StyledContent) (tail : List Item) → EndsApart before → IsStyledContent s t → EndsParagraph tail
+    ensures paragraph { (before : List Item) (s : Setting) (t : StyledContent) (tail : List Item) → EndsApart before → s.place ≡ place.Paragraph → IsStyledContent s t
+        → EndsParagraph tail
         → meaning (before ++ (page_items (spelled s (signs_in t)) ++ tail))
         ≡ body_with (blocks_in before ++ para_with (styled_parts false s [] t []) ∷ blocks_in tail) }
     ensures heading { (before : List Item) (s : Setting) (t : StyledContent) (sides : Sides) (tail : List Item) → AreClosed (before_marks before)
@@ -122,7 +124,7 @@ pub fn texts_in_styles_may_be_in_headings()
 /// where a line of comments stands a line begins (`AreMarksLed`), and none on its line closes a tag that opens a pair (`AllStayOpen`).
 pub fn nodes_of_the_page_stay_in_styles()
     ensures { (s : Setting) (ls : List (List Item)) (at : ℕ) (t : StyledContent) → s.within ≡ false → AreFlatLines ls → AreKept (signs_of_lines at ls)
-        → AreCharacters (signs_in t) → AreNested false false t → AreMarksLed (signs_in t) → AreSomeAndPut (things (signs_in t)) (things (signs_of_lines at ls))
+        → AreCharacters (signs_in t) → AreNested false false t → AreMarksLed s.place (signs_in t) → AreSomeAndPut (things (signs_in t)) (things (signs_of_lines at ls))
         → AreUrlsApart (things (signs_in t)) → AllStayOpen s [] (signs_in t) → IsStyledContent s t }
 {}
 
@@ -159,7 +161,7 @@ pub fn blocks_with_styles_have_their_nodes()
 pub fn texts_sent_in_styles_are_such()
     ensures { (same : Tree → Tree → Bool) (s : Setting) (ls : List (List Item)) (block : Tree) (us : Trees) → s.within ≡ false → AreFlatLines ls
         → IsBlockOfLines ls block → AreKept (signs_of_lines (length (label block).opening) ls) → AllNest false false us
-        → AreMarksLed (signs_in (sent_content (page_of same block) us)) → AreSomeOf (all_numbers us) (all_numbers (children_of block)) → AreCharacters (signs_in (sent_content (page_of same block) us))
+        → AreMarksLed s.place (signs_in (sent_content (page_of same block) us)) → AreSomeOf (all_numbers us) (all_numbers (children_of block)) → AreCharacters (signs_in (sent_content (page_of same block) us))
         → AreUrlsApart (things (signs_in (sent_content (page_of same block) us))) → AllStayOpen s [] (signs_in (sent_content (page_of same block) us))
         → IsStyledContent s (sent_content (page_of same block) us) }
 {}
@@ -193,11 +195,11 @@ pub fn styled_contents_are_made()
         → block ≡ standing n before (block_tree k q) → IsStyledEditOf k block ps → IsStyledIn k (new_content k block m ps) }
 {}
 
-/// In such a paragraph or heading of the page a line of comments stands only where a line begins (`AreOwnLed`): behind a line break, behind
-/// another such line, or at its start, and in no bold or italic node. And a paragraph begins with no mark.
+/// In such a paragraph or heading of the page a line of comments stands only where a line of it begins (`AreOwnLed`): behind a line break or behind
+/// another such line, not at its start, and in no bold or italic node. And a paragraph begins with no mark.
 pub fn lines_of_comments_begin_lines()
     ensures led { (k : TextBlock) (q : List ℕ) (n : ℕ) (before : List Item) (block : Tree) → IsStyledIn k q → 0 < n
-        → block ≡ standing n before (block_tree k q) → AreOwnLed block (0 + length (label block).opening) true (children_of block) }
+        → block ≡ standing n before (block_tree k q) → AreOwnLed block (0 + length (label block).opening) false (children_of block) }
     ensures unmarked { (q : List ℕ) (n : ℕ) (before : List Item) (block : Tree) → IsStyledIn a_paragraph q → 0 < n
         → block ≡ standing n before (block_tree a_paragraph q) → begin_marked (children_of block) ≡ false }
 {}

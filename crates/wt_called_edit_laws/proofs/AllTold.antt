@@ -44,4 +44,4 @@ pub mod OwnBytes
 pub mod KnownLines
 pub mod CallingTogether
 pub mod CallingCases
-mod EndCases
+pub mod EndCases

@@ -13,6 +13,10 @@ pub mod Whole
 pub mod Headings
 pub mod Making
 pub mod Apart
+pub mod CallSources
+pub mod NodeThings
+pub mod BlockNodes
+pub mod NodeCases
 pub mod Cases
 mod PageCases
 pub mod InsideCases

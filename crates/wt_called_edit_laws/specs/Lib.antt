@@ -64,3 +64,4 @@ pub mod StyledCallEdits
 pub mod CallingTold
 pub mod SpelledBeside
 pub mod CallingTogether
+pub mod BlockNodes

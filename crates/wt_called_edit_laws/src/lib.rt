@@ -139,7 +139,7 @@ pub fn pages_without_calls_are_such()
 pub fn written_contents_give_what_their_signs_give()
     ensures gives { (pages : Pages) (s : Setting) (signs : List ContentSign) → s.within ≡ false → AreReadThings signs → AreOwnParts pages signs
         → IsWrittenAs pages (spelled s signs) (λ i. written_items pages s i [] signs) (written_calls pages signs) (written_work pages signs) }
-    ensures firm { (s : Setting) (signs : List ContentSign) → s.within ≡ false → AreReadThings signs → IsFirmlyRead (spelled s signs) }
+    ensures firm { (k : TextBlock) (s : Setting) (signs : List ContentSign) → s.within ≡ false → AreReadThings signs → IsFirmlyRead k (spelled s signs) }
     ensures alone { (s : Setting) (signs : List ContentSign) → s.within ≡ false → AreReadThings signs
         → page_items (spelled s signs) ≡ content_items s [] signs }
 {}

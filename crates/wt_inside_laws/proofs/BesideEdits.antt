@@ -27,6 +27,7 @@ use Rattle.wt_typed_blocks.specs.Edited.{Edited, Edits, page_node}
 use Rattle.wt_text_edit_laws.specs.BlockSpots.{BlockSpot, spots_source}
 use Rattle.wt_text_edit_laws.specs.TextBlocks.{TextBlock, source_of, block_tree}
 use Rattle.wt_called_edit_laws.specs.CalledContents.{tree_round}
+use Rattle.wt_called_edit_laws.specs.CallingBlocks.{IsContentIn, AreContentsInFolder}
 use Rattle.wt_called_edit_laws.specs.CallingContents.{FitsIn, IfSent, AreFittingIn, IsContentEditIn, TakesContentsIn}
 use Rattle.wt_called_edit_laws.specs.CallingEdits.{IsCallingPage}
 use Rattle.wt_called_edit_laws.specs.CallingGroups.{block_with_groups}
@@ -137,11 +138,11 @@ abbrev pub block_at : Pages → List ℕ → ℕ → BlockSpot → Tree
 block_at pages page i s = cut_texts (block_in (expanded_page pages page).outer (tree_round s.block (part_items pages i s.text)))
 
 spot_fits : (pages : Pages) (page : List ℕ) (t : Tree) (es : Edits) (ms : List Pair) (i : ℕ) (s : BlockSpot) (p : List ℕ) (o : Option Edited)
-    → edited_by es p ≡ o → SentKnown pages page t es ms → HoldsAnywhere pages s.block s.text → IsWholeIn pages s.block s.text
+    → edited_by es p ≡ o → SentKnown pages page t es ms → HoldsAnywhere pages s.block s.text → IsWholeIn pages s.block s.text → IsContentIn pages s.block s.text
     → AreSourcesAt (expanded_page pages page).outer i (expanded_page pages (source_of s.block s.text)).outer → flat (block_at pages page i s) ≡ source_of s.block s.text
     → IfSent (λ d. IsSettledAt (block_at pages page i s) (page_node d)) o → IfSent (FitsIn pages s.block s.text) o
-spot_fits pages page t es ms i s p None e h hold whole named own st = tt
-spot_fits pages page t es ms i s p (Some x) e h hold whole named own st =
+spot_fits pages page t es ms i s p None e h hold whole content named own st = tt
+spot_fits pages page t es ms i s p (Some x) e h hold whole content named own st =
     let v : Tree = block_at pages page i s in
     let a : PairAt (IsKnownBeside pages page) t es p =
     pair_at (IsKnownBeside pages page) t es p (paths_of es) ms (path_by es p x e) h.pairs h.at h.each in
@@ -154,20 +155,21 @@ spot_fits pages page t es ms i s p (Some x) e h hold whole named own st =
       calls = named;
       holds = hold;
       whole = whole;
+      content = content;
       settled = subst (IsSettledAt v) (same_old same_node (page_of (page_tree pages page)) a.pair a.known.alike) there;
     } in
     subst (FitsIn pages s.block s.text) is (block_fits pages page s.block s.text a.pair block a.known)
 
 all_fit : (pages : Pages) (page : List ℕ) (t : Tree) (es : Edits) (ms : List Pair) (k : ℕ) (ss : List BlockSpot) (ps : List (List ℕ))
-    → SentKnown pages page t es ms → EachHolds pages ss → EachWhole pages ss
+    → SentKnown pages page t es ms → EachHolds pages ss → EachWhole pages ss → AreContentsInFolder pages ss
     → AreNamed pages (expanded_page pages page).outer k ss → HaveOwnSources (grouped_at (expanded_page pages page).outer pages k ss) ss
     → AreOfBlocks (grouped_at (expanded_page pages page).outer pages k ss) ss (map (edited_by es) ps) → AreFittingIn pages ss (map (edited_by es) ps)
-all_fit pages page t es ms k [] [] h hold whole named own b = tt
-all_fit pages page t es ms k [] (p ∷ ps) h hold whole named own b = absurd b
-all_fit pages page t es ms k (s ∷ ss) [] h hold whole named own b = absurd b
-all_fit pages page t es ms k (s ∷ ss) (p ∷ ps) h hold whole named own b = (
-  spot_fits pages page t es ms (calls_to pages k s) s p (edited_by es p) refl h hold.0 whole.0 named.0 own.0 b.0,
-  all_fit pages page t es ms (calls_past pages k s) ss ps h hold.1 whole.1 named.1 own.1 b.1,
+all_fit pages page t es ms k [] [] h hold whole contents named own b = tt
+all_fit pages page t es ms k [] (p ∷ ps) h hold whole contents named own b = absurd b
+all_fit pages page t es ms k (s ∷ ss) [] h hold whole contents named own b = absurd b
+all_fit pages page t es ms k (s ∷ ss) (p ∷ ps) h hold whole contents named own b = (
+  spot_fits pages page t es ms (calls_to pages k s) s p (edited_by es p) refl h hold.0 whole.0 contents.0 named.0 own.0 b.0,
+  all_fit pages page t es ms (calls_past pages k s) ss ps h hold.1 whole.1 contents.1 named.1 own.1 b.1,
 )
 
 -- ---- the edit
@@ -210,7 +212,7 @@ beside_sent pages ss behind new c utf8 unrefused own there e =
       old = sent.old;
       sent = sent.stay;
       edits = sent.only c.paths e.among;
-      fit = all_fit pages page t es ms 0 ss c.paths pairs there.hold there.whole (block_calls pages ss behind there.outside.blocks.called) own of_blocks;
+      fit = all_fit pages page t es ms 0 ss c.paths pairs there.hold there.whole there.outside.blocks.contents (block_calls pages ss behind there.outside.blocks.called) own of_blocks;
     } in
     record { sent = sent; edit = edit; same = ap (spliced page) (sent.changes b) ∙ c.makes b es edit; pairs = pairs.pairs; own = of_blocks }
 

@@ -1,5 +1,5 @@
--- A text edit of paragraphs and headings that may hold calls is done, and is local.
-use Rattle.std.proofs.Common.{arith, ◌≡◌, ℕ, ◌≤◌, Option, Some, None, List, [], ◌∷◌, length, sym, ap, subst, inr}
+-- A text edit of paragraphs and headings, with calls in them or without, is done, and is local.
+use Rattle.std.proofs.Common.{arith, ◌≡◌, ℕ, ◌≤◌, Option, Some, None, List, [], ◌∷◌, length, sym, ap, subst, inl, inr}
 use Rattle.std.specs.List.{AllByRecursion}
 use Rattle.std.specs.Str.{IsUtf8}
 use Rattle.wt_span.specs.declared.limits.TheConstants.{HTML_BYTES, PAGE_BYTES}
@@ -20,6 +20,7 @@ use Rattle.wt_text_edit_laws.specs.TextBlocks.{TextBlock, a_paragraph, a_heading
 use Rattle.wt_called_edit_laws.specs.AllTold.{IsOneOf as IsAnyOf}
 use Rattle.wt_called_edit_laws.specs.CallingContents.{TakesContentsIn}
 use Rattle.wt_called_edit_laws.specs.CallingTogether.{EachEditable, TakeThere}
+use Rattle.wt_called_edit_laws.specs.CallingTold.{IsExceptedCalling}
 use Rattle.wt_called_edit_laws.specs.EditableNodes.{IsEditable}
 use Rattle.wt_called_edit_laws.specs.Groups.{called_tree}
 use Rattle.wt_called_edit_laws.specs.LinedAmong.{spots_of_lines, end_of_lines}
@@ -33,41 +34,74 @@ use Rattle.wt_called_edit_laws.proofs.Whole.Pieced.{pieced_content, pieced_holds
 use Rattle.wt_called_edit_laws.proofs.Whole.TextAndCalls.{pieced}
 use Rattle.wt_inside_laws.specs.AsSent.{edits_of, paths_of, node_at, AreSomeOf}
 use Rattle.wt_inside_laws.specs.BesideEdits.{IsBesideBlock, IsBesideEdit}
-use Rattle.wt_inside_laws.specs.EditsWithCalls.{AreInTheirPieces, AreTextsAndCalls, MayHoldCalls, MarksBlocksWithCalls, IsEditWithCalls, IsDifferenceWithCalls}
+use Rattle.wt_inside_laws.specs.EditsWithCalls.{AreInTheirPieces, AreTextsAndCalls, IsCallingOn, MayHoldCalls, IsMarkedEdit, IsMarkedDifference}
 use Rattle.wt_inside_laws.specs.LocalTextEdits.{IsLocalTextEdit}
-use Rattle.wt_inside_laws.specs.TextEdits.{IsRetyped}
+use Rattle.wt_inside_laws.specs.TextEdits.{IsRetyped, IsTextEdit}
+use Rattle.wt_inside_laws.specs.ToldEdits.{IsOrdinaryOn, IsOrdinaryEdit, IsOrdinaryDifference}
+use Rattle.wt_inside_laws.specs.TypedApart.{IsTypedApart}
 use Rattle.wt_inside_laws.specs.TypedBeside.{IsTypedIn}
 use Rattle.wt_inside_laws.proofs.BesideEdits.{calling_edit_done}
 use Rattle.wt_inside_laws.proofs.HtmlEdits.{edit_is}
-use Rattle.wt_inside_laws.proofs.LocalTextEdits.{nothing_local, calling_local}
+use Rattle.wt_inside_laws.proofs.LocalTextEdits.{nothing_local, ordinary_local, calling_local}
 use Rattle.wt_inside_laws.proofs.NothingMarked.{nothing_done, nothing_spliced}
-use Rattle.wt_inside_laws.proofs.OrdinaryEdits.{nodes_at, olds, one_same, block_kind, OrdinarySent, read_as_sent, difference_as_sent, by_marked, done_without_marks}
+use Rattle.wt_inside_laws.proofs.OrdinaryEdits.{nodes_at, olds, one_same, block_kind, OrdinarySent, read_as_sent, difference_as_sent, by_marked, ordinary_done, done_without_marks, difference_written}
+use Rattle.wt_inside_laws.proofs.OrdinaryBeside.{block_told, ordinary_calling}
 use Rattle.wt_inside_laws.proofs.Reached.{Reaches, edits_reach}
 use Rattle.wt_inside_laws.proofs.ToldEdits.{first_same, rest_same}
+use Rattle.wt_inside_laws.proofs.TypedApart.{ordinary_apart}
 use Rattle.wt_inside_laws.proofs.TypedBeside.{calling_typed_apart}
 
 -- ---- a marked block is at its path
 
-all_beside : (pages : Pages) (page : List ℕ) (ms : List Pair) → AllByRecursion (MayHoldCalls pages page) ms → AllByRecursion (IsBesideBlock pages page) ms
+-- it is none of the excepted, and its content may be edited with its calls
+record IsHeld (pages : Pages) (page : List ℕ) (p : Pair) : Type 0 where
+  unexcepted : IsExceptedCalling pages page p.old → ⊥
+  calling : IsCallingOn pages page p
+
+held : (pages : Pages) (page : List ℕ) (q : List ℕ) (m : Pair) → IsUtf8 page → refusal_of_page pages page ≡ None → Reaches (called_tree pages page) q
+    → node_at q (called_tree pages page) ≡ Some m.old → IsRetyped same_node (expanded_page pages page) page m → MayHoldCalls pages page m → IsHeld pages page m
+held pages page q m utf8 unrefused w e r h = record {
+  unexcepted = h.unexcepted;
+  calling = elim h.held [
+    | inl o ↦ ordinary_calling pages page m (block_told pages page q m utf8 unrefused w e r o) o
+    | inr c ↦ c
+  ];
+}
+
+all_held : (pages : Pages) (page : List ℕ) → IsUtf8 page → refusal_of_page pages page ≡ None → (qs : List (List ℕ)) (ms : List Pair)
+    → AllByRecursion (Reaches (called_tree pages page)) qs → nodes_at (called_tree pages page) qs ≡ olds ms
+    → AllByRecursion (IsRetyped same_node (expanded_page pages page) page) ms → AllByRecursion (MayHoldCalls pages page) ms
+    → AllByRecursion (IsHeld pages page) ms
+all_held pages page utf8 unrefused [] [] w e r h = tt
+all_held pages page utf8 unrefused [] (m ∷ ms) w e r h = absurd (let no = ap length e in omega (arith, no))
+all_held pages page utf8 unrefused (q ∷ qs) [] w e r h = tt
+all_held pages page utf8 unrefused (q ∷ qs) (m ∷ ms) w e r h =
+    let t : Tree = called_tree pages page in (
+      held pages page q m utf8 unrefused w.0 (first_same (node_at q t) (Some m.old) (nodes_at t qs) (olds ms) e) r.0 h.0,
+      all_held pages page utf8 unrefused qs ms w.1 (rest_same (node_at q t) (Some m.old) (nodes_at t qs) (olds ms) e) r.1 h.1,
+    )
+
+all_beside : (pages : Pages) (page : List ℕ) (ms : List Pair) → AllByRecursion (IsHeld pages page) ms → AllByRecursion (IsBesideBlock pages page) ms
 all_beside pages page [] h = tt
-all_beside pages page (m ∷ ms) h = (h.0.beside, all_beside pages page ms h.1)
+all_beside pages page (m ∷ ms) h = let first : IsHeld pages page m = h.0 in (first.calling.beside, all_beside pages page ms h.1)
 
 -- and may be edited there
 each_editable : (pages : Pages) (page : List ℕ) (qs : List (List ℕ)) (ms : List Pair) → AllByRecursion (Reaches (called_tree pages page)) qs
     → nodes_at (called_tree pages page) qs ≡ olds ms → AllByRecursion (IsRetyped same_node (expanded_page pages page) page) ms
-    → AllByRecursion (MayHoldCalls pages page) ms → EachEditable pages page qs
+    → AllByRecursion (IsHeld pages page) ms → EachEditable pages page qs
 each_editable pages page [] ms w e r h = tt
 each_editable pages page (q ∷ qs) [] w e r h = absurd (let no = ap length e in omega (arith, no))
 each_editable pages page (q ∷ qs) (m ∷ ms) w e r h =
-    let t : Tree = called_tree pages page in (
+    let t : Tree = called_tree pages page in
+    let first : IsHeld pages page m = h.0 in (
       (
         m.old,
         record {
           reached = w.0 m.old (first_same (node_at q t) (Some m.old) (nodes_at t qs) (olds ms) e);
           block = block_kind (label m.old).kind r.0.block;
           untangled = r.0.untangled;
-          unexcepted = h.0.unexcepted;
-          editable = h.0.editable;
+          unexcepted = first.unexcepted;
+          editable = first.calling.editable;
         },
       ),
       each_editable pages page qs ms w.1 (rest_same (node_at q t) (Some m.old) (nodes_at t qs) (olds ms) e) r.1 h.1,
@@ -104,31 +138,35 @@ record CallsTold (pages : Pages) (page : List ℕ) (new : Tree) : Type 0 where
   taken : TakesContentsIn pages (spots_of_lines pages page bs) (end_of_lines pages page bs rest)
   edit : IsBesideEdit pages page taken.paths new
 
--- what is known of it
+-- what is known of one in which some blocks may hold calls
 record IsCallsRead (pages : Pages) (page : List ℕ) (new : Tree) : Type 0 where
   utf8 : IsUtf8 page
   short : length page ≤ PAGE_BYTES
   unrefused : refusal_of_page pages page ≡ None
-  edit : MarksBlocksWithCalls pages page new
+  edit : IsTextEdit same_node (expanded_page pages page) page (page_tree pages page) new
+  blocks : AllByRecursion (MayHoldCalls pages page) (marked (page_tree pages page) new)
   sent : OrdinarySent pages page new
 
-calls_read : (pages : Pages) (page input : List ℕ) (new : Tree) (u : Option ℕ) → IsEditWithCalls pages page input new u → IsCallsRead pages page new
-calls_read pages page input new u h = record {
+calls_read : (pages : Pages) (page input : List ℕ) (new : Tree) (u : Option ℕ) → IsMarkedEdit pages page input new u
+    → AllByRecursion (MayHoldCalls pages page) (marked (page_tree pages page) new) → IsCallsRead pages page new
+calls_read pages page input new u h c = record {
   utf8 = h.utf8;
   short = h.short;
   unrefused = h.unrefused;
   edit = h.edit;
-  sent = read_as_sent pages page input new u h.utf8 h.short h.unrefused h.sent h.edit.edit;
+  blocks = c;
+  sent = read_as_sent pages page input new u h.utf8 h.short h.unrefused h.sent h.edit;
 }
 
-difference_read : (pages : Pages) (page input : List ℕ) (new : Tree) (u : Option ℕ) → IsDifferenceWithCalls pages page input new u
-    → IsCallsRead pages page (remarked_of pages page new)
-difference_read pages page input new u h = record {
+difference_read : (pages : Pages) (page input : List ℕ) (new : Tree) (u : Option ℕ) → IsMarkedDifference pages page input new u
+    → AllByRecursion (MayHoldCalls pages page) (marked (page_tree pages page) (remarked_of pages page new)) → IsCallsRead pages page (remarked_of pages page new)
+difference_read pages page input new u h c = record {
   utf8 = h.utf8;
   short = h.short;
   unrefused = h.unrefused;
   edit = h.edit;
-  sent = difference_as_sent pages page input new u h.utf8 h.short h.unrefused h.sent h.edit.edit;
+  blocks = c;
+  sent = difference_as_sent pages page input new u h.utf8 h.short h.unrefused h.sent h.edit;
 }
 
 calls_told : (pages : Pages) (page : List ℕ) (new : Tree) → IsCallsRead pages page new → 1 ≤ length (marked (page_tree pages page) new) → CallsTold pages page new
@@ -140,8 +178,9 @@ calls_told pages page new h some =
     let e : OrdinarySent pages page new = h.sent in
     let body = page_body pages page h.utf8 h.unrefused in
     let reach : AllByRecursion (Reaches t) ps = edits_reach t es (ap is_group body.kind) e.sent.old e.sent.outside in
+    let all : AllByRecursion (IsHeld pages page) ms = all_held pages page h.utf8 h.unrefused ps ms reach e.sent.at h.edit.blocks h.blocks in
     let there : TakeThere pages page ps =
-    lines_together pages page ps h.utf8 h.unrefused (some_paths t ps ms e.sent.at some) (each_editable pages page ps ms reach e.sent.at h.edit.edit.blocks h.edit.blocks) in
+    lines_together pages page ps h.utf8 h.unrefused (some_paths t ps ms e.sent.at some) (each_editable pages page ps ms reach e.sent.at h.edit.blocks all) in
     record {
       bs = there.bs;
       rest = there.behind;
@@ -149,10 +188,10 @@ calls_told pages page new h some =
       taken = there.taken;
       edit = record {
         short = h.short;
-        edit = h.edit.edit;
+        edit = h.edit;
         read = e.read;
         blocks = e.blocks;
-        beside = all_beside pages page ms h.edit.blocks;
+        beside = all_beside pages page ms all;
         among = among_paths there.taken.paths ps there.there;
       };
     }
@@ -177,26 +216,68 @@ typed_of pages page new h =
 
 -- ---- with marks
 
-pub calls_done : (pages : Pages) (page input : List ℕ) (new : Tree) (u : Option ℕ) → IsEditWithCalls pages page input new u
+-- where each marked block is ordinary
+as_ordinary : (pages : Pages) (page input : List ℕ) (new : Tree) (u : Option ℕ) → IsMarkedEdit pages page input new u
+    → AllByRecursion (IsOrdinaryOn pages page) (marked (page_tree pages page) new) → IsOrdinaryEdit pages page input new u
+as_ordinary pages page input new u h o = record {
+  utf8 = h.utf8;
+  short = h.short;
+  unrefused = h.unrefused;
+  sent = h.sent;
+  edit = h.edit;
+  blocks = o;
+}
+
+pub marked_done : (pages : Pages) (page input : List ℕ) (new : Tree) (u : Option ℕ) → IsMarkedEdit pages page input new u
     → edit_to pages page new ≡ done (spliced page (slices same_node (page_tree pages page) new))
-calls_done pages page input new u h = done_of pages page new (calls_read pages page input new u h)
+marked_done pages page input new u h = elim h.blocks [
+  | inl o ↦ ordinary_done pages page input new u (as_ordinary pages page input new u h o)
+  | inr c ↦ done_of pages page new (calls_read pages page input new u h c)
+]
 
-pub calls_written : (pages : Pages) (page input : List ℕ) (new : Tree) (u : Option ℕ) → IsEditWithCalls pages page input new u → length input ≤ HTML_BYTES
+pub marked_written : (pages : Pages) (page input : List ℕ) (new : Tree) (u : Option ℕ) → IsMarkedEdit pages page input new u → length input ≤ HTML_BYTES
     → edit_of pages (Some page) input ≡ done (spliced page (slices same_node (page_tree pages page) new))
-calls_written pages page input new u h le =
-    edit_is pages page (spliced page (slices same_node (page_tree pages page) new)) input new u h.utf8 h.short le h.sent (calls_done pages page input new u h)
+marked_written pages page input new u h le =
+    edit_is pages page (spliced page (slices same_node (page_tree pages page) new)) input new u h.utf8 h.short le h.sent
+    (marked_done pages page input new u h)
 
-pub calls_local : (pages : Pages) (page input : List ℕ) (new : Tree) (u : Option ℕ) → IsEditWithCalls pages page input new u → IsLocalTextEdit pages page new
-calls_local pages page input new u h = local_of pages page new (calls_read pages page input new u h)
+pub marked_local : (pages : Pages) (page input : List ℕ) (new : Tree) (u : Option ℕ) → IsMarkedEdit pages page input new u → IsLocalTextEdit pages page new
+marked_local pages page input new u h = elim h.blocks [
+  | inl o ↦ ordinary_local pages page input new u (as_ordinary pages page input new u h o)
+  | inr c ↦ local_of pages page new (calls_read pages page input new u h c)
+]
 
-pub calls_typed : (pages : Pages) (page input : List ℕ) (new : Tree) (u : Option ℕ) → IsEditWithCalls pages page input new u
+-- blocks that call nothing are among those that may
+all_typed : (pages : Pages) (ms : List Pair) → AllByRecursion IsTypedApart ms → AllByRecursion (IsTypedIn pages) ms
+all_typed pages [] h = tt
+all_typed pages (m ∷ ms) h = (inl h.0, all_typed pages ms h.1)
+
+pub marked_typed : (pages : Pages) (page input : List ℕ) (new : Tree) (u : Option ℕ) → IsMarkedEdit pages page input new u
     → AllByRecursion (IsTypedIn pages) (marked (page_tree pages page) new)
-calls_typed pages page input new u h = typed_of pages page new (calls_read pages page input new u h)
+marked_typed pages page input new u h = elim h.blocks [
+  | inl o ↦
+      all_typed pages (marked (page_tree pages page) new) (ordinary_apart pages page input new u (as_ordinary pages page input new u h o))
+  | inr c ↦ typed_of pages page new (calls_read pages page input new u h c)
+]
 
 -- ---- without marks
 
-pub calls_difference : (pages : Pages) (page input : List ℕ) (new : Tree) (u : Option ℕ) (stands : Option (List ℕ)) → IsDifferenceWithCalls pages page input new u
-    → stands ≡ Some page → length input ≤ HTML_BYTES → DoneByEdit pages stands input
-calls_difference pages page input new u stands h found le =
-    done_without_marks pages page input new u stands (spliced page (slices same_node (page_tree pages page) (remarked_of pages page new))) h.utf8 h.short h.sent
-    (done_of pages page (remarked_of pages page new) (difference_read pages page input new u h)) found le
+ordinary_difference : (pages : Pages) (page input : List ℕ) (new : Tree) (u : Option ℕ) → IsMarkedDifference pages page input new u
+    → AllByRecursion (IsOrdinaryOn pages page) (marked (page_tree pages page) (remarked_of pages page new)) → IsOrdinaryDifference pages page input new u
+ordinary_difference pages page input new u h o = record {
+  utf8 = h.utf8;
+  short = h.short;
+  unrefused = h.unrefused;
+  sent = h.sent;
+  edit = h.edit;
+  blocks = o;
+}
+
+pub marked_difference : (pages : Pages) (page input : List ℕ) (new : Tree) (u : Option ℕ) (stands : Option (List ℕ))
+    → IsMarkedDifference pages page input new u → stands ≡ Some page → length input ≤ HTML_BYTES → DoneByEdit pages stands input
+marked_difference pages page input new u stands h found le = elim h.blocks [
+  | inl o ↦ difference_written pages page input new u stands (ordinary_difference pages page input new u h o) found le
+  | inr c ↦
+      done_without_marks pages page input new u stands (spliced page (slices same_node (page_tree pages page) (remarked_of pages page new))) h.utf8 h.short
+      h.sent (done_of pages page (remarked_of pages page new) (difference_read pages page input new u h c)) found le
+]

@@ -55,15 +55,21 @@ pub mod TextAndCallBlocks
 pub mod HtmlEdits
 pub mod OrdinaryEdits
 pub mod NothingMoved
+pub mod SectionsAlike
 pub mod LocalTextEdits
 pub mod EditsWithCalls
 pub mod GivenBack
 pub mod TypedApart
+pub mod OneSource
+pub mod OrdinaryBeside
 pub mod TypedBeside
 pub mod InsidesCases
 pub mod PageCases
 pub mod LocalCases
 pub mod EditCases
 pub mod CallingCases
+mod WithCallsCases
 pub mod Sources
 pub mod Meeting
+pub mod NodeNumbers
+pub mod NodeBlocks

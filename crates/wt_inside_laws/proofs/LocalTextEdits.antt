@@ -26,6 +26,7 @@ use Rattle.wt_called_edit_laws.specs.PlacedLines.{LinedBlock}
 use Rattle.wt_called_edit_laws.proofs.Among.CallingLines.{calling_whole, calling_editable}
 use Rattle.wt_called_edit_laws.proofs.Among.LinedParts.{lined_whole, lined_editable}
 use Rattle.wt_called_edit_laws.proofs.BlocksOutside.{editable_called}
+use Rattle.wt_called_edit_laws.proofs.EditFacts.{spots_utf8}
 use Rattle.wt_called_edit_laws.proofs.EditableBlocks.{editable_calling}
 use Rattle.wt_called_edit_laws.proofs.PageBody.{IsBodyOf, page_body}
 use Rattle.wt_called_edit_laws.proofs.SpotSources.{blocks_have}
@@ -35,9 +36,24 @@ use Rattle.wt_inside_laws.specs.LocalTextEdits.{IsLocalTextEdit}
 use Rattle.wt_inside_laws.specs.ToldEdits.{IsToldEdit, IsOrdinaryEdit}
 use Rattle.wt_inside_laws.proofs.NothingMarked.{ChangesNothing, nothing_done}
 use Rattle.wt_inside_laws.proofs.NothingMoved.{still_local, still_alike}
+use Rattle.wt_inside_laws.proofs.SectionsAlike.{sections_alike}
 use Rattle.wt_inside_laws.proofs.BesideEdits.{BesideSent, beside_sent}
 use Rattle.wt_inside_laws.proofs.OrdinaryEdits.{OrdinarySent, ordinary_sent, OrdinaryTold, ordinary_told, by_marked}
 use Rattle.wt_inside_laws.proofs.ToldEdits.{CalledSent, called_sent}
+
+-- ---- its sections, too
+
+local_with : (pages : Pages) (page : List ℕ) (new : Tree) → IsUtf8 page → refusal_of_page pages page ≡ None
+    → IsSentOn pages page new (edits_of (called_tree pages page) new)
+    → IsLocalChange pages page (spliced page (slices same_node (page_tree pages page) new)) (edits_of (called_tree pages page) new)
+    → IsLocalTextEdit pages page new
+local_with pages page new utf8 unrefused s l = record {
+  old = s.old;
+  at = s.at;
+  sections =
+      sections_alike pages page (spliced page (slices same_node (page_tree pages page) new)) (edits_of (called_tree pages page) new) utf8 unrefused l;
+  local = l;
+}
 
 -- ---- of blocks that hold no call
 
@@ -52,11 +68,8 @@ called_local pages ss behind new c h e =
     let es : Edits = edits_of (called_tree pages (spots_source ss behind)) new in
     let s : CalledSent pages ss behind c.paths new = called_sent pages ss behind new c h e in
     record {
-      local = record {
-        old = s.sent.old;
-        at = s.sent.at;
-        local = subst (λ (bs : List ℕ). IsLocalChange pages (spots_source ss behind) bs es) (sym s.same) (c.local es s.edit);
-      };
+      local = local_with pages (spots_source ss behind) new (spots_utf8 pages ss behind h) h.unrefused s.sent
+          (subst (λ (bs : List ℕ). IsLocalChange pages (spots_source ss behind) bs es) (sym s.same) (c.local es s.edit));
       alike = subst (λ (bs : List ℕ). ExpandsAlike pages (spots_source ss behind) bs) (sym s.same) (c.alike es s.edit);
     }
 
@@ -71,17 +84,14 @@ lined_local pages page bs rest new h c e =
     (λ k. called_local pages ss behind new c called k) e
 
 -- where nothing is marked
-nothing_stays : (pages : Pages) (page : List ℕ) (new : Tree) → IsBodyOf page (called_tree pages page)
+nothing_stays : (pages : Pages) (page : List ℕ) (new : Tree) → IsUtf8 page → refusal_of_page pages page ≡ None → IsBodyOf page (called_tree pages page)
     → IsSentOn pages page new (edits_of (called_tree pages page) new) → ChangesNothing pages page new → Stays pages page new
-nothing_stays pages page new b s n =
+nothing_stays pages page new utf8 unrefused b s n =
     let es : Edits = edits_of (called_tree pages page) new in
     let same : spliced page (slices same_node (page_tree pages page) new) ≡ page = ap (spliced page) n.slices ∙ nothing_changes page in
     record {
-      local = record {
-        old = s.old;
-        at = s.at;
-        local = subst (λ (bs : List ℕ). IsLocalChange pages page bs es) (sym same) (still_local pages page es n.none s.outside s.old b.slices);
-      };
+      local = local_with pages page new utf8 unrefused s
+          (subst (λ (bs : List ℕ). IsLocalChange pages page bs es) (sym same) (still_local pages page es n.none s.outside s.old b.slices));
       alike = subst (λ (bs : List ℕ). ExpandsAlike pages page bs) (sym same) (still_alike pages page);
     }
 
@@ -89,7 +99,7 @@ pub nothing_local : (pages : Pages) (page : List ℕ) (new : Tree) → IsUtf8 pa
     → IsSentOn pages page new (edits_of (called_tree pages page) new) → marked (page_tree pages page) new ≡ [] → IsLocalTextEdit pages page new
 nothing_local pages page new utf8 short unrefused sent none =
     let s : Stays pages page new =
-    nothing_stays pages page new (page_body pages page utf8 unrefused) sent (nothing_done pages page new utf8 short unrefused sent none) in
+    nothing_stays pages page new utf8 unrefused (page_body pages page utf8 unrefused) sent (nothing_done pages page new utf8 short unrefused sent none) in
     s.local
 
 ordinary_stays : (pages : Pages) (page input : List ℕ) (new : Tree) (u : Option ℕ) → IsOrdinaryEdit pages page input new u → Stays pages page new
@@ -97,7 +107,7 @@ ordinary_stays pages page input new u h =
     by_marked (marked (page_tree pages page) new)
     (λ none.
     let e : OrdinarySent pages page new = ordinary_sent pages page input new u h in
-    nothing_stays pages page new (page_body pages page h.utf8 h.unrefused) e.sent
+    nothing_stays pages page new h.utf8 h.unrefused (page_body pages page h.utf8 h.unrefused) e.sent
     (nothing_done pages page new h.utf8 h.short h.unrefused e.sent none))
     (λ some.
     let o : OrdinaryTold pages page new = ordinary_told pages page input new u h some in
@@ -119,11 +129,8 @@ beside_local pages ss behind new c h utf8 unrefused e =
     let es : Edits = edits_of (called_tree pages (spots_source ss behind)) new in
     let s : BesideSent pages ss behind c.paths new =
     beside_sent pages ss behind new c utf8 unrefused (blocks_have pages ss behind h.outside h.unrefused) h e in
-    record {
-      old = s.sent.old;
-      at = s.sent.at;
-      local = subst (λ (bs : List ℕ). IsLocalChange pages (spots_source ss behind) bs es) (sym s.same) (c.local es s.edit);
-    }
+    local_with pages (spots_source ss behind) new utf8 unrefused s.sent
+    (subst (λ (bs : List ℕ). IsLocalChange pages (spots_source ss behind) bs es) (sym s.same) (c.local es s.edit))
 
 pub calling_local : (pages : Pages) (page : List ℕ) (bs : List LinedBlock) (rest : List (List Item)) (new : Tree) → IsLinedCalling pages page bs rest
     → (c : TakesContentsIn pages (spots_of_lines pages page bs) (end_of_lines pages page bs rest)) → IsBesideEdit pages page c.paths new

@@ -68,16 +68,16 @@ only_one : (ts : List Told) (x y : AreSome ts) → x ≡ y
 only_one [] x y = absurd x
 only_one (t ∷ ts) x y = refl
 
-record IsTold (pages : Pages) (page : List ℕ) (a : AllBlocksTold pages page) (q : List ℕ) : Type 0 where
-  some : AreSome a.ts
-  one : IsOneOf q (a.told some).taken.paths
+pub record IsTold (pages : Pages) (page : List ℕ) (a : AllBlocksTold pages page) (q : List ℕ) : Type 0 where
+  pub some : AreSome a.ts
+  pub one : IsOneOf q (a.told some).taken.paths
 
 told_of : (pages : Pages) (page : List ℕ) (a : AllBlocksTold pages page) (q : List ℕ) (t : Tree) → (IsExcepted pages page t → ⊥)
     → ((s : AreSome a.ts) × IsAnyOf q (a.told s).taken.paths) ⊎ IsExcepted pages page t → IsTold pages page a q
 told_of pages page a q t n (inl h) = record { some = h.0; one = one_same q (a.told h.0).taken.paths h.1 }
 told_of pages page a q t n (inr h) = absurd (n h)
 
-marked_told : (pages : Pages) (page : List ℕ) (a : AllBlocksTold pages page) (q : List ℕ) (m : Pair) → Reaches (called_tree pages page) q
+pub marked_told : (pages : Pages) (page : List ℕ) (a : AllBlocksTold pages page) (q : List ℕ) (m : Pair) → Reaches (called_tree pages page) q
     → node_at q (called_tree pages page) ≡ Some m.old → IsRetyped same_node (expanded_page pages page) page m → IsOrdinaryOn pages page m
     → IsTold pages page a q
 marked_told pages page a q m w e r o =

@@ -10,6 +10,7 @@ use Rattle.wt_tree.specs.declared.kind.Mark.TheVariants as marks
 use Rattle.wt_tree.specs.declared.edit_shape.InlineForm.{InlineForm}
 use Rattle.wt_tree.specs.declared.edit_shape.InlineForm.TheVariants as inline
 use Rattle.wt_tree.specs.declared.edit_shape.BlockForm.TheVariants as block
+use Rattle.wt_tree.specs.declared.edit_shape.Place.TheVariants as place
 use Rattle.wt_tree.specs.EditShapes.{edit_shape}
 use Rattle.wt_tree.specs.Kinds.{is_leaf}
 use Rattle.wt_tree.specs.Tiling.{HasNoGroup, NoneIsGroup}
@@ -23,6 +24,7 @@ use Rattle.wt_link_spelling.specs.Spelling.{children_of}
 use Rattle.wt_visible.specs.SameNodes.{same_node}
 use Rattle.wt_typed_blocks.specs.Sent.{Block, paragraph, heading, kind_of}
 use Rattle.wt_typed_blocks.specs.Edited.{Pieces, no_pieces, gone, written, kept, around, new_style, sent_pieces, text_node}
+use Rattle.wt_typed_blocks.specs.Typed.{place_of}
 use Rattle.wt_text_edit_laws.specs.TextBlocks.{TextBlock, a_paragraph, a_heading, block_of, block_tree}
 use Rattle.wt_beside_laws.specs.FlatBlocks.{AreOneLine, TextsFitIn, signs_in as signs_of, sent_for}
 use Rattle.wt_beside_laws.specs.FlatPages.{AreNodesAndTexts}
@@ -36,7 +38,6 @@ use Rattle.wt_beside_laws.specs.OpenTags.{spine, EndTags}
 use Rattle.wt_beside_laws.proofs.LinesOpen.{StayOnLines, lines_keep}
 use Rattle.wt_beside_laws.proofs.Made.OldBlocks.{IsIn, block_kind, no_group}
 use Rattle.wt_beside_laws.proofs.Styled.LedLines.{own_led}
-use Rattle.wt_beside_laws.specs.OwnLed.{begin_marked}
 use Rattle.wt_beside_laws.proofs.Styled.OwnFirst.{paragraph_begins}
 use Rattle.wt_beside_laws.proofs.Styled.OwnNests.{own_nests}
 use Rattle.wt_beside_laws.proofs.Styled.OwnSpine.{own_spine, own_stays}
@@ -47,15 +48,15 @@ use Rattle.wt_called_edit_laws.specs.EditsAt.{IsStanding}
 use Rattle.wt_called_edit_laws.specs.SentAsIs.{as_sent, HaveNumberedGroups}
 use Rattle.wt_called_edit_laws.proofs.Cells.SentAsIs.{none_numbered}
 use Rattle.wt_inside_laws.specs.Contents.{Border, borders, texts, Slot, slots_from, slots}
-use Rattle.wt_inside_laws.specs.RetypedPieces.{pieces_of, as_own, AreRead, ArePiecesOf, Utf8By, AreUtf8, BeginsUnmarked}
+use Rattle.wt_inside_laws.specs.RetypedPieces.{pieces_of, as_own, AreRead, ArePiecesOf, Utf8By, AreUtf8}
 use Rattle.wt_inside_laws.specs.TextEdits.{IsRetypedText, IsOneLine, IsRetyped}
 use Rattle.wt_inside_laws.proofs.Between.{texts_between}
 use Rattle.wt_inside_laws.proofs.Breaks.{unbroken_count, count_unbroken}
 use Rattle.wt_inside_laws.proofs.OwnPieces.{own_page, IsElement, AreOfStyle, HoldIn, trees_in, Anything, any_leaves, own_pieces_stay}
 use Rattle.wt_inside_laws.proofs.RetypedPieces.{retyped_pieces}
 use Rattle.wt_inside_laws.proofs.SlotTexts.{LeavesBy, AllLeaves, depth_after, TextsHold, leaves_hold, texts_hold}
-use Rattle.wt_inside_laws.proofs.SlotsFirst.{NewFirst, block_first, retyped_first, sent_first}
-use Rattle.wt_inside_laws.proofs.SlotsLed.{TextsLed, own_texts_led, retyped_led, sent_led}
+use Rattle.wt_inside_laws.proofs.SlotsFirst.{NewFirst, block_first, retyped_first, KnownFirst, nodes_known, heading_first, sent_first}
+use Rattle.wt_inside_laws.proofs.SlotsLed.{TextsLed, texts_more, own_texts_led, retyped_led, sent_led}
 use Rattle.wt_inside_laws.proofs.SlotsOpen.{spine_by, block_spine, sent_spine, retyped_spine}
 
 -- ---- texts that are UTF-8
@@ -287,18 +288,14 @@ fits_in (a_heading s) q node us ps i h g =
     own_one_line 0 ps (g (leaves_hold OnOneLine (λ d x y z. broken_cut x y z) us (slots_hold None (borders us) (texts us) 0 one)))
 
 pub new_texts_led : (k : TextBlock) (q : List ℕ) (items : Expanded) (page : List ℕ) (p : Pair) → IsRetyped same_node items page p → IsStyledIn k q → IsIn k q p.old
-    → TextsLed (kept_nodes p.old) true (borders (children_of p.new)) (texts (children_of p.new))
+    → TextsLed (kept_nodes p.old) false (borders (children_of p.new)) (texts (children_of p.new))
 new_texts_led k q items page p r h i =
     let ts : Trees = children_of p.old in
     let us : Trees = children_of p.new in
     let ks : List Kept = kept_nodes p.old in
-    subst (λ bs. TextsLed ks true bs (texts us)) (sym r.in_order)
-    (retyped_led ks None (borders ts) (texts ts) (texts us) true (same_length ts us r.in_order) (paired ks ts us r.in_order r.texts)
-    (own_texts_led p.old _ ts (own_led k q p.old h i)))
-
-begins_unmarked : (k : TextBlock) (q : List ℕ) (t : Tree) → IsStyledIn k q → IsIn k q t → BeginsUnmarked k t → begin_marked (children_of t) ≡ false
-begins_unmarked a_paragraph q t h i u = paragraph_begins q t h i
-begins_unmarked (a_heading s) q t h i u = u
+    subst (λ bs. TextsLed ks false bs (texts us)) (sym r.in_order)
+    (retyped_led ks None (borders ts) (texts ts) (texts us) false (same_length ts us r.in_order) (paired ks ts us r.in_order r.texts)
+    (own_texts_led p.old _ false ts (own_led k q p.old h i)))
 
 block_kinds : (b : Block) → is_leaf (kind_of b) ≡ false
 block_kinds paragraph = refl
@@ -307,10 +304,27 @@ block_kinds (heading n) = refl
 no_leaf_in : (k : TextBlock) (q : List ℕ) (t : Tree) → IsIn k q t → is_leaf (label t).kind ≡ false
 no_leaf_in k q t i = ap is_leaf (block_kind k q t i) ∙ block_kinds (block_of k)
 
+-- no node comes to be first that may not be
+first_in : (k : TextBlock) (q : List ℕ) (items : Expanded) (page : List ℕ) (p : Pair) → IsRetyped same_node items page p → IsStyledIn k q → IsIn k q p.old
+    → NewFirst (place_of (block_of k)) (kept_nodes p.old) (borders (children_of p.new)) (texts (children_of p.new))
+first_in a_paragraph q items page p r h i =
+    let ts : Trees = children_of p.old in
+    let us : Trees = children_of p.new in
+    let ks : List Kept = kept_nodes p.old in
+    let led = own_led a_paragraph q p.old h i in
+    subst (λ bs. NewFirst place.Paragraph ks bs (texts us)) (sym r.in_order)
+    (retyped_first ks (borders ts) (texts ts) (texts us) false (same_length ts us r.in_order) (paired ks ts us r.in_order r.texts)
+    (block_first p.old false (no_leaf_in a_paragraph q p.old i) (paragraph_begins q p.old h i) led) (own_texts_led p.old _ false ts led))
+first_in (a_heading s) q items page p r h i =
+    let ks : List Kept = kept_nodes p.old in
+    heading_first ks (borders (children_of p.new)) (texts (children_of p.new))
+    (subst (KnownFirst ks) (sym r.in_order) (nodes_known (children_of p.old) p.old _ false (own_led (a_heading s) q p.old h i)))
+    (new_texts_led (a_heading s) q items page p r h i)
+
 pub own_edit : (k : TextBlock) (q : List ℕ) (items : Expanded) (page : List ℕ) (p : Pair) → IsRetyped same_node items page p → AreRead (children_of p.new)
-    → AreUtf8 (children_of p.new) → IsStyledIn k q → IsIn k q p.old → BeginsUnmarked k p.old → EndTags (signs_of k q)
+    → AreUtf8 (children_of p.new) → IsStyledIn k q → IsIn k q p.old → EndTags (signs_of k q)
     → IsStyledEditOf k p.old (as_own (pieces_of (children_of p.old) (children_of p.new)))
-own_edit k q items page p r read utf8 h i begins tags =
+own_edit k q items page p r read utf8 h i tags =
     let ts : Trees = children_of p.old in
     let us : Trees = children_of p.new in
     let ks : List Kept = kept_nodes p.old in
@@ -328,11 +342,6 @@ own_edit k q items page p r read utf8 h i begins tags =
     (retyped_hold ks None (borders ts) (texts ts) (texts us) 0 (same_length ts us r.in_order) (paired ks ts us r.in_order r.texts) old_texts) in
     let unbroken : AllLeaves UnbrokenIn 0 us =
     leaves_hold UnbrokenIn (λ d x y a. ((λ z. (broken_cut x y (a z)).0), (λ z. (broken_cut x y (a z)).1))) us new_texts in
-    let led = own_led k q p.old h i in
-    let first : NewFirst ks (borders us) (texts us) =
-    subst (λ bs. NewFirst ks bs (texts us)) (sym r.in_order)
-    (retyped_first ks (borders ts) (texts ts) (texts us) (same_length ts us r.in_order) (paired ks ts us r.in_order r.texts)
-    (block_first p.old (no_leaf_in k q p.old i) (begins_unmarked k q p.old h i begins) led) (own_texts_led p.old _ ts led)) in
     let same : sent_for p.old (as_own ps) ≡ sent_content shown us =
     own_signs 0 shown ps
     (trees_in Anything SameSign SameStyled (λ l os m ws f g z a. element_sign l os m ws f g z) (λ l m s b z. style_sign l m b z) ts 0 us (any_leaves us 0)
@@ -353,15 +362,16 @@ own_edit k q items page p r read utf8 h i begins tags =
           (λ a. trees_in OnOneLine AreNodes AnyStyle (λ l os m ws f g z b. node_form (edit_shape l.kind).inline f) (λ l m s b z. tt) ts 0 us a (sym r.in_order) free);
       new = own_nest 0 false false ps (λ z. absurd (cc))
           (trees_in UnbrokenIn AreNodes AnyStyle (λ l os m ws f g z a. node_form (edit_shape l.kind).inline f) (λ l m s b z. tt) ts 0 us unbroken (sym r.in_order) free);
-      led = subst (λ (t : StyledContent). AreMarksLed (signs_in t)) (sym same) (record {
-        first = sent_first us shown utf8 first;
-        others = sent_led shown us utf8 (new_texts_led k q items page p r h i);
+      led = subst (λ (t : StyledContent). AreMarksLed (place_of (block_of k)) (signs_in t)) (sym same) (record {
+        first = sent_first (place_of (block_of k)) us shown utf8 (first_in k q items page p r h i);
+        others = sent_led shown us utf8
+            (texts_more ks (borders us) (texts us) false true (λ e. refl) (new_texts_led k q items page p r h i));
       });
       unclosed = lines_keep (signs_in (sent_for p.old (as_own ps))) (subst StayOnLines (sym (ap (λ (t : StyledContent). spine (signs_in t)) same ∙ lines)) (own_stays k q h tags));
     }
 
 pub standing_edit : (k : TextBlock) (q : List ℕ) (items : Expanded) (page : List ℕ) (p : Pair) → IsRetyped same_node items page p → AreRead (children_of p.new)
-    → AreUtf8 (children_of p.new) → IsStanding (block_tree k q) p.old → IsStyledIn k q → BeginsUnmarked k p.old → EndTags (signs_of k q)
+    → AreUtf8 (children_of p.new) → IsStanding (block_tree k q) p.old → IsStyledIn k q → EndTags (signs_of k q)
     → IsStyledEditOf k p.old (as_own (pieces_of (children_of p.old) (children_of p.new)))
-standing_edit k q items page p r read utf8 s h b c =
-    own_edit k q items page p r read utf8 h (record { number = s.number; before = s.before; some = s.some; is = s.is }) b c
+standing_edit k q items page p r read utf8 s h c =
+    own_edit k q items page p r read utf8 h (record { number = s.number; before = s.before; some = s.some; is = s.is }) c

@@ -1,4 +1,5 @@
--- Marks at the start of a content: one that comes to be first, since the text before it was deleted, didn't begin its line in the page.
+-- Marks at the start of a content: one that comes to be first in a paragraph, since the text before it was deleted, didn't begin its line in the page; and
+-- in a heading no line of comments comes to be first.
 use Rattle.std.proofs.Common.{arith, ◌≡◌, ◌⊎◌, ℕ, ◌+◌, ◌<◌, ◌==◌, Bool, true, false, not, Option, Some, None, List, [], ◌∷◌, ◌++◌, length, refl, sym, ap, ap₂, ◌∙◌, subst, inl, inr, append-nil}
 use Rattle.std.specs.Prelude.{◌&&◌, zip, if◌then◌else◌}
 use Rattle.std.specs.List.{AllByRecursion}
@@ -11,6 +12,8 @@ use Rattle.wt_tree.specs.Source.{flat, flat_of_all}
 use Rattle.wt_tree.specs.Tree.{Label, Tree, tree, Trees, none, more, label}
 use Rattle.wt_tree.specs.declared.edit_shape.InlineForm.{InlineForm}
 use Rattle.wt_tree.specs.declared.edit_shape.InlineForm.TheVariants as inline
+use Rattle.wt_tree.specs.declared.edit_shape.Place.{Place}
+use Rattle.wt_tree.specs.declared.edit_shape.Place.TheVariants as place
 use Rattle.wt_tree.specs.declared.edit_shape.Sort.{Sort}
 use Rattle.wt_tree.specs.declared.edit_shape.Sort.TheVariants as sort
 use Rattle.wt_tree.specs.EditShapes.{edit_shape}
@@ -23,7 +26,7 @@ use Rattle.wt_original.specs.declared.block.Extent.{Extent}
 use Rattle.wt_original.specs.Kept.{Kept, kept_nodes, kept_with, found_at, began_line, url, island, role_by, role_of}
 use Rattle.wt_original.specs.Page.{Page}
 use Rattle.wt_link_spelling.specs.Spelling.{children_of}
-use Rattle.wt_beside_laws.specs.Led.{BeginsUnled}
+use Rattle.wt_beside_laws.specs.Led.{MayBegin, BeginsUnled}
 use Rattle.wt_beside_laws.specs.SentStyled.{text_then, found_then, sent_by, sent_content}
 use Rattle.wt_beside_laws.specs.Styled.{StyledContent, signs_in}
 use Rattle.wt_beside_laws.proofs.Marks.Ends.{LastIs, last_of, ends_so}
@@ -189,22 +192,22 @@ pub leaf_source : (l : Label) (ts : Trees) → is_leaf l.kind ≡ false → flat
 leaf_source l ts e =
     ap (λ (v : Bool). if v then l.own else (l.opening ++ flat_of_all ts ++ l.closing)) e ∙ append_assoc l.opening (flat_of_all ts) l.closing
 
-pub block_first : (block : Tree) → is_leaf (label block).kind ≡ false → begin_marked (children_of block) ≡ false
-    → AreOwnLed block (0 + length (label block).opening) true (children_of block)
+pub block_first : (block : Tree) (s : Bool) → is_leaf (label block).kind ≡ false → begin_marked (children_of block) ≡ false
+    → AreOwnLed block (0 + length (label block).opening) s (children_of block)
     → OwnFirst (kept_nodes block) [] (borders (children_of block)) (texts (children_of block))
-block_first (tree l ts) leaf b led = nodes_first ts (tree l ts) (0 + length l.opening) true [] l.closing (omega arith) (leaf_source l ts leaf) (λ e. b) led
+block_first (tree l ts) s leaf b led = nodes_first ts (tree l ts) (0 + length l.opening) s [] l.closing (omega arith) (leaf_source l ts leaf) (λ e. b) led
 
 -- ---- in what is sent
 
--- no mark is first but one that wasn't at the start of its line
-abbrev pub NewFirst : List Kept → List Border → List (List ℕ) → Type 0
-NewFirst ks bs [] = Unit {0}
-NewFirst ks [] (n ∷ ns) = Unit {0}
-NewFirst ks (element i ∷ bs) ([] ∷ ns) = IsKnown (kept_with i ks) (λ r. is_mark r ≡ true → is_new_at_start r ≡ true)
-NewFirst ks (element i ∷ bs) ((c ∷ cs) ∷ ns) = Unit {0}
-NewFirst ks (bold i ∷ bs) (n ∷ ns) = Unit {0}
-NewFirst ks (italic i ∷ bs) (n ∷ ns) = Unit {0}
-NewFirst ks (end ∷ bs) (n ∷ ns) = Unit {0}
+-- no node is first but one that may be
+abbrev pub NewFirst : Place → List Kept → List Border → List (List ℕ) → Type 0
+NewFirst p ks bs [] = Unit {0}
+NewFirst p ks [] (n ∷ ns) = Unit {0}
+NewFirst p ks (element i ∷ bs) ([] ∷ ns) = IsKnown (kept_with i ks) (MayBegin p)
+NewFirst p ks (element i ∷ bs) ((c ∷ cs) ∷ ns) = Unit {0}
+NewFirst p ks (bold i ∷ bs) (n ∷ ns) = Unit {0}
+NewFirst p ks (italic i ∷ bs) (n ∷ ns) = Unit {0}
+NewFirst p ks (end ∷ bs) (n ∷ ns) = Unit {0}
 
 is_new : (r : Role) → ends_line r ≡ false → began_of r ≡ false → is_mark r ≡ true → is_new_at_start r ≡ true
 is_new Link e b m = cc
@@ -222,7 +225,7 @@ no_break_end b bs h e =
     let z = ends_so false (b ∷ bs) (omega arith) (last_unbroken b bs h) in let no = sym z ∙ e in cc
 
 known_new : (o : Option Kept) (n : List ℕ) (s : Bool) → IsKnown o (IsFirstOf n) → (is_line_mark o ≡ true → settled n s ≡ true) → (0 < length n → has_break n ≡ false)
-    → IsKnown o (λ r. is_mark r ≡ true → is_new_at_start r ≡ true)
+    → IsKnown o (MayBegin place.Paragraph)
 known_new None n s h led free = h
 known_new (Some k) [] s h led free = λ m. absurd (let no = sym h ∙ m in cc)
 known_new (Some k) (b ∷ bs) s h led free =
@@ -234,7 +237,7 @@ known_new (Some k) (b ∷ bs) s h led free =
     unended false e = e
 
 first_at : (ks : List Kept) (i : ℕ) (n m : List ℕ) (s : Bool) (bs : List Border) (ms : List (List ℕ)) → (breaks_of m ≡ breaks_of n) ⊎ (m ≡ n)
-    → IsKnown (kept_with i ks) (IsFirstOf n) → LedAt ks (element i) (settled n s) → NewFirst ks (element i ∷ bs) (m ∷ ms)
+    → IsKnown (kept_with i ks) (IsFirstOf n) → LedAt ks (element i) (settled n s) → NewFirst place.Paragraph ks (element i ∷ bs) (m ∷ ms)
 first_at ks i n (c ∷ cs) s bs ms t h led = tt
 first_at ks i n [] s bs ms (inl e) h led = known_new (kept_with i ks) n s h led (λ some. count_unbroken n (sym e))
 first_at ks i n [] s bs ms (inr e) h led = known_new (kept_with i ks) n s h led (λ some. absurd (let no = ap length e in omega (arith, no, some)))
@@ -243,53 +246,116 @@ same_breaks : (ks : List Kept) (s t : Slot) → IsRetypedText ks (s, t) → (bre
 same_breaks ks s t (inl e) = inr e
 same_breaks ks s t (inr r) = inl r.breaks
 
-pub retyped_first : (ks : List Kept) (bs : List Border) (ns ms : List (List ℕ)) → length ns ≡ length ms
-    → AllByRecursion (IsRetypedText ks) (zip (slots_from None bs ns) (slots_from None bs ms)) → OwnFirst ks [] bs ns → TextsLed ks true bs ns → NewFirst ks bs ms
-retyped_first ks bs [] [] e t h led = tt
-retyped_first ks bs [] (m ∷ ms) e t h led = absurd (omega (arith, e))
-retyped_first ks bs (n ∷ ns) [] e t h led = tt
-retyped_first ks [] (n ∷ ns) (m ∷ ms) e t h led = tt
-retyped_first ks (element i ∷ bs) (n ∷ ns) (m ∷ ms) e t h led =
-    first_at ks i n m true bs ms
+pub retyped_first : (ks : List Kept) (bs : List Border) (ns ms : List (List ℕ)) (s : Bool) → length ns ≡ length ms
+    → AllByRecursion (IsRetypedText ks) (zip (slots_from None bs ns) (slots_from None bs ms)) → OwnFirst ks [] bs ns → TextsLed ks s bs ns
+    → NewFirst place.Paragraph ks bs ms
+retyped_first ks bs [] [] s e t h led = tt
+retyped_first ks bs [] (m ∷ ms) s e t h led = absurd (omega (arith, e))
+retyped_first ks bs (n ∷ ns) [] s e t h led = tt
+retyped_first ks [] (n ∷ ns) (m ∷ ms) s e t h led = tt
+retyped_first ks (element i ∷ bs) (n ∷ ns) (m ∷ ms) s e t h led =
+    first_at ks i n m s bs ms
     (same_breaks ks (record { left = None; text = n; right = Some (element i) }) (record { left = None; text = m; right = Some (element i) }) t.0) h led.0
-retyped_first ks (bold i ∷ bs) (n ∷ ns) (m ∷ ms) e t h led = tt
-retyped_first ks (italic i ∷ bs) (n ∷ ns) (m ∷ ms) e t h led = tt
-retyped_first ks (end ∷ bs) (n ∷ ns) (m ∷ ms) e t h led = tt
+retyped_first ks (bold i ∷ bs) (n ∷ ns) (m ∷ ms) s e t h led = tt
+retyped_first ks (italic i ∷ bs) (n ∷ ns) (m ∷ ms) s e t h led = tt
+retyped_first ks (end ∷ bs) (n ∷ ns) (m ∷ ms) s e t h led = tt
+
+-- ---- in a heading
+
+abbrev AnyRole : Role → Type 0
+AnyRole r = Unit {0}
+
+-- the page has the first node, unless a style is before it
+abbrev pub KnownFirst : List Kept → List Border → Type 0
+KnownFirst ks [] = Unit {0}
+KnownFirst ks (element i ∷ bs) = IsKnown (kept_with i ks) AnyRole
+KnownFirst ks (bold i ∷ bs) = Unit {0}
+KnownFirst ks (italic i ∷ bs) = Unit {0}
+KnownFirst ks (end ∷ bs) = Unit {0}
+
+known_found : (block : Tree) (at : ℕ) (l : Label) (ts : Trees) → FoundAt block at (tree l ts) → IsKnown (kept_with l.id (kept_nodes block)) AnyRole
+known_found block at l ts h = subst (λ (o : Option Kept). IsKnown o AnyRole) (sym h.1) tt
+
+known_node : (f : InlineForm) (block : Tree) (at : ℕ) (s : Bool) (l : Label) (ts us : Trees) (rest : Bool → Type 0) → LedBy f block at s l ts rest
+    → ((v : Bool) → rest v → KnownFirst (kept_nodes block) (borders us)) → KnownFirst (kept_nodes block) (borders_by f l.id (borders ts) ++ borders us)
+known_node inline.Nothing block at s l ts us rest h g = absurd h
+known_node inline.Characters block at s l ts us rest h g = g (settled l.shown s) h.2
+known_node inline.Bold block at s l ts us rest h g = tt
+known_node inline.Italic block at s l ts us rest h g = tt
+known_node inline.Shown block at s l ts us rest h g = known_found block at l ts h.0
+known_node inline.PageLink block at s l ts us rest h g = known_found block at l ts h.0
+known_node inline.ExternalLink block at s l ts us rest h g = known_found block at l ts h.0
+known_node inline.Tag block at s l ts us rest h g = known_found block at l ts h.0
+known_node inline.Break block at s l ts us rest h g = known_found block at l ts h.0
+known_node inline.AsItStood block at s l ts us rest h g = known_found block at l ts h.0
+
+pub nodes_known : (ts : Trees) (block : Tree) (at : ℕ) (s : Bool) → AreOwnLed block at s ts → KnownFirst (kept_nodes block) (borders ts)
+nodes_known none block at s h = tt
+nodes_known (more (tree l ts) us) block at s h =
+    known_node (edit_shape l.kind).inline block at s l ts us (λ v. AreOwnLed block (at + length (flat (tree l ts))) v us) h
+    (λ v q. nodes_known us block (at + length (flat (tree l ts))) v q)
+
+known_unended : (o : Option Kept) → IsKnown o AnyRole → (is_line_mark o ≡ true → false ≡ true) → IsKnown o (MayBegin place.Heading)
+known_unended None h f = h
+known_unended (Some k) h f = by (ends_line k.role) refl
+  where
+    by : (v : Bool) → ends_line k.role ≡ v → ends_line k.role ≡ false
+    by true e = let no : false ≡ true = f e in cc
+    by false e = e
+
+-- where no line begins before the content, no line of comments is first
+pub heading_first : (ks : List Kept) (bs : List Border) (ns : List (List ℕ)) → KnownFirst ks bs → TextsLed ks false bs ns → NewFirst place.Heading ks bs ns
+heading_first ks bs [] h led = tt
+heading_first ks [] (n ∷ ns) h led = tt
+heading_first ks (element i ∷ bs) ([] ∷ ns) h led = known_unended (kept_with i ks) h led.0
+heading_first ks (element i ∷ bs) ((c ∷ cs) ∷ ns) h led = tt
+heading_first ks (bold i ∷ bs) (n ∷ ns) h led = tt
+heading_first ks (italic i ∷ bs) (n ∷ ns) h led = tt
+heading_first ks (end ∷ bs) (n ∷ ns) h led = tt
 
 -- ---- the first sign
 
-known_first : (o : Option Kept) (t : StyledContent) → IsKnown o (λ r. is_mark r ≡ true → is_new_at_start r ≡ true) → BeginsUnled (signs_in (found_then o t))
-known_first None t h = absurd h
-known_first (Some k) t h = h
+known_first : (p : Place) (o : Option Kept) (t : StyledContent) → IsKnown o (MayBegin p) → BeginsUnled p (signs_in (found_then o t))
+known_first p None t h = absurd h
+known_first p (Some k) t h = h
 
-letters_first : (cs : List ℕ) (t : StyledContent) → (cs ≡ [] → BeginsUnled (signs_in t)) → BeginsUnled (signs_in (text_then cs t))
-letters_first [] t h = h refl
-letters_first (c ∷ cs) t h = tt
+letters_first : (p : Place) (cs : List ℕ) (t : StyledContent) → (cs ≡ [] → BeginsUnled p (signs_in t)) → BeginsUnled p (signs_in (text_then cs t))
+letters_first p [] t h = h refl
+letters_first p (c ∷ cs) t h = tt
 
-without_first : (ks : List Kept) (bs : List Border) (x : List ℕ) (os : List (List ℕ)) → x ≡ [] → NewFirst ks bs (onto_first x os) → NewFirst ks bs os
-without_first ks bs x [] e h = tt
-without_first ks bs x (n ∷ ns) e h = subst (λ (cs : List ℕ). NewFirst ks bs ((cs ++ n) ∷ ns)) e h
+without_first : (p : Place) (ks : List Kept) (bs : List Border) (x : List ℕ) (os : List (List ℕ)) → x ≡ [] → NewFirst p ks bs (onto_first x os) → NewFirst p ks bs os
+without_first p ks bs x [] e h = tt
+without_first p ks bs x (n ∷ ns) e h = subst (λ (cs : List ℕ). NewFirst p ks bs ((cs ++ n) ∷ ns)) e h
 
 no_chars : (text : List ℕ) → IsUtf8 text → chars text ≡ [] → text ≡ []
 no_chars text u e = sym (encodes-chars text u) ∙ ap encodes e
 
-sign_first : (f : InlineForm) (p : Page) (l : Label) (bs ys : List Border) (before : List (List ℕ) → List (List ℕ)) (after : List (List ℕ)) (inside t : StyledContent)
-    (U : Type 0) → Utf8By f l U → NewFirst p.kept (borders_by f l.id bs ++ ys) (texts_by f l.shown before after)
-    → (NewFirst p.kept ys after → BeginsUnled (signs_in t)) → BeginsUnled (signs_in (sent_by f (kept_with l.id p.kept) l inside t))
-sign_first inline.Nothing p l bs ys before after inside t U u h k = k h
-sign_first inline.Characters p l bs ys before after inside t U u h k =
-    letters_first (chars l.shown) t (λ e. k (without_first p.kept ys l.shown after (no_chars l.shown u e) h))
-sign_first inline.Bold p l bs ys before after inside t U u h k = λ e. absurd (cc)
-sign_first inline.Italic p l bs ys before after inside t U u h k = λ e. absurd (cc)
-sign_first inline.Shown p l bs ys before after inside t U u h k = known_first (kept_with l.id p.kept) t h
-sign_first inline.PageLink p l bs ys before after inside t U u h k = known_first (kept_with l.id p.kept) t h
-sign_first inline.ExternalLink p l bs ys before after inside t U u h k = known_first (kept_with l.id p.kept) t h
-sign_first inline.Tag p l bs ys before after inside t U u h k = known_first (kept_with l.id p.kept) t h
-sign_first inline.Break p l bs ys before after inside t U u h k = known_first (kept_with l.id p.kept) t h
-sign_first inline.AsItStood p l bs ys before after inside t U u h k = known_first (kept_with l.id p.kept) t h
+-- a style's delimiter may
+style_may : (p : Place) → MayBegin p Toggle
+style_may place.Paragraph = λ e. absurd (cc)
+style_may place.Heading = refl
+style_may place.Item = λ e. absurd (cc)
+style_may place.Term = λ e. absurd (cc)
+style_may place.Cell = λ e. absurd (cc)
+style_may place.Header = λ e. absurd (cc)
 
-pub sent_first : (us : Trees) (p : Page) → AreUtf8 us → NewFirst p.kept (borders us) (texts us) → BeginsUnled (signs_in (sent_content p us))
-sent_first none p u h = tt
-sent_first (more (tree l ts) us) p u h =
-    sign_first (edit_shape l.kind).inline p l (borders ts) (borders us) (λ os. all_texts_before ts os) (texts us) (sent_content p ts) (sent_content p us) (AreUtf8 ts) u.0 h
-    (λ q. sent_first us p u.1 q)
+sign_first : (p : Place) (f : InlineForm) (page : Page) (l : Label) (bs ys : List Border) (before : List (List ℕ) → List (List ℕ)) (after : List (List ℕ))
+    (inside t : StyledContent) (U : Type 0) → Utf8By f l U → NewFirst p page.kept (borders_by f l.id bs ++ ys) (texts_by f l.shown before after)
+    → (NewFirst p page.kept ys after → BeginsUnled p (signs_in t)) → BeginsUnled p (signs_in (sent_by f (kept_with l.id page.kept) l inside t))
+sign_first p inline.Nothing page l bs ys before after inside t U u h k = k h
+sign_first p inline.Characters page l bs ys before after inside t U u h k =
+    letters_first p (chars l.shown) t (λ e. k (without_first p page.kept ys l.shown after (no_chars l.shown u e) h))
+sign_first p inline.Bold page l bs ys before after inside t U u h k = style_may p
+sign_first p inline.Italic page l bs ys before after inside t U u h k = style_may p
+sign_first p inline.Shown page l bs ys before after inside t U u h k = known_first p (kept_with l.id page.kept) t h
+sign_first p inline.PageLink page l bs ys before after inside t U u h k = known_first p (kept_with l.id page.kept) t h
+sign_first p inline.ExternalLink page l bs ys before after inside t U u h k = known_first p (kept_with l.id page.kept) t h
+sign_first p inline.Tag page l bs ys before after inside t U u h k = known_first p (kept_with l.id page.kept) t h
+sign_first p inline.Break page l bs ys before after inside t U u h k = known_first p (kept_with l.id page.kept) t h
+sign_first p inline.AsItStood page l bs ys before after inside t U u h k = known_first p (kept_with l.id page.kept) t h
+
+pub sent_first : (p : Place) (us : Trees) (page : Page) → AreUtf8 us → NewFirst p page.kept (borders us) (texts us) → BeginsUnled p (signs_in (sent_content page us))
+sent_first p none page u h = tt
+sent_first p (more (tree l ts) us) page u h =
+    sign_first p (edit_shape l.kind).inline page l (borders ts) (borders us) (λ os. all_texts_before ts os) (texts us) (sent_content page ts) (sent_content page us)
+    (AreUtf8 ts) u.0 h (λ q. sent_first p us page u.1 q)

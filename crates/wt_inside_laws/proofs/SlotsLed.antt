@@ -25,7 +25,7 @@ use Rattle.wt_beside_laws.specs.Led.{AreLed}
 use Rattle.wt_beside_laws.specs.SentStyled.{text_then, found_then, or_nowiki, sent_by, sent_content}
 use Rattle.wt_beside_laws.specs.Styled.{StyledContent, finished, sign, styled, signs_before, signs_in, delimiter}
 use Rattle.wt_beside_laws.specs.OwnLed.{settled, is_line, FoundAt, NoLineBy, NoLines, LedBy, AreOwnLed}
-use Rattle.wt_beside_laws.proofs.Marks.LedItems.{settled_append, settled_is}
+use Rattle.wt_beside_laws.proofs.Marks.LedItems.{settled_append, settled_more, settled_is}
 use Rattle.wt_beside_laws.proofs.Styled.OwnLed.{role_ends}
 use Rattle.wt_inside_laws.specs.Contents.{Border, element, bold, italic, end, borders_by, borders_of, borders, onto_first, texts_by, texts_before, all_texts_before, texts, Slot, slots_from}
 use Rattle.wt_inside_laws.specs.RetypedPieces.{Utf8By, AreUtf8}
@@ -52,6 +52,18 @@ TextsLed ks s (b ∷ bs) (n ∷ ns) = LedAt ks b (settled n s) × TextsLed ks (b
 
 led_more : (ks : List Kept) (b : Border) (v w : Bool) → v ≡ w → LedAt ks b v → LedAt ks b w
 led_more ks b v w e h = subst (LedAt ks b) e h
+
+at_more : (ks : List Kept) (b : Border) (v w : Bool) → (v ≡ true → w ≡ true) → LedAt ks b v → LedAt ks b w
+at_more ks (element n) v w f h = λ e. f (h e)
+at_more ks (bold n) v w f h = tt
+at_more ks (italic n) v w f h = tt
+at_more ks end v w f h = tt
+
+-- so they are where a line begins before them
+pub texts_more : (ks : List Kept) (bs : List Border) (ns : List (List ℕ)) (s v : Bool) → (s ≡ true → v ≡ true) → TextsLed ks s bs ns → TextsLed ks v bs ns
+texts_more ks bs [] s v f h = tt
+texts_more ks [] (n ∷ ns) s v f h = tt
+texts_more ks (b ∷ bs) (n ∷ ns) s v f h = (at_more ks b (settled n s) (settled n v) (λ e. settled_more n s v f e) h.0, h.1)
 
 -- ---- in the page
 
@@ -169,9 +181,9 @@ pub none_behind : (bs : List Border) → bs ++ [] ≡ bs
 none_behind [] = refl
 none_behind (b ∷ bs) = ap (λ cs. b ∷ cs) (none_behind bs)
 
-pub own_texts_led : (block : Tree) (at : ℕ) (ts : Trees) → AreOwnLed block at true ts → TextsLed (kept_nodes block) true (borders ts) (texts ts)
-own_texts_led block at ts h =
-    subst (λ bs. TextsLed (kept_nodes block) true bs (texts ts)) (none_behind (borders ts)) (led_all ts block at true [] ([] ∷ []) tt h (λ v. tt))
+pub own_texts_led : (block : Tree) (at : ℕ) (s : Bool) (ts : Trees) → AreOwnLed block at s ts → TextsLed (kept_nodes block) s (borders ts) (texts ts)
+own_texts_led block at s ts h =
+    subst (λ bs. TextsLed (kept_nodes block) s bs (texts ts)) (none_behind (borders ts)) (led_all ts block at s [] ([] ∷ []) tt h (λ v. tt))
 
 -- ---- what was typed
 

@@ -27,7 +27,7 @@ use Rattle.wt_called_edit_laws.proofs.Whole.TextAndCalls.{texts_beside}
 use Rattle.wt_inside_laws.specs.BesideEdits.{IsBlockOf, IsBesideBlock}
 use Rattle.wt_inside_laws.specs.TextAndCallBlocks.{DoCallsMeet, IsOfTextsAndCalls, IsTextAndCallBlock}
 
-settled_source : (n at : ℕ) (t : Tree) → flat (settled n at t) ≡ flat t
+pub settled_source : (n at : ℕ) (t : Tree) → flat (settled n at t) ≡ flat t
 settled_source n at t = sym (flat_same (settled n at t)) ∙ ap flat (settled_gone n at t) ∙ flat_same t
 
 beside_by : (pages : Pages) (page : List ℕ) (k : TextBlock) (q : List ℕ) (t : Tree) → IsBlockOf pages page k q t → IsOfTextsAndCalls pages t k q

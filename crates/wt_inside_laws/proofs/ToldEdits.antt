@@ -143,13 +143,13 @@ pair_at K t es p (q ∷ qs) (m ∷ ms) (inr h) k e f =
 
 pub calm_fits : (pages : Pages) (page : List ℕ) (k : TextBlock) (q : List ℕ) (p : Pair) → IsContent k q → CallsNothing (block_items k q)
     → IsStanding (block_tree k q) p.old → IsRetyped same_node (expanded_page pages page) page p → IsAlike same_node (page_of (page_tree pages page)) p
-    → IsReadBlock p → HasEndedNodes k q p → Fits k q (edit_for p)
+    → IsReadBlock p → HasEndedNodes k q → Fits k q (edit_for p)
 calm_fits pages page k q p c r s retyped alike read ended =
     let styled : IsStyledIn k q = content_styled k q c r ended.ended in
     inr (
       styled,
       subst (λ (t : Tree). IsStyledEditOf k t (pieces_for p)) (sym (same_old same_node (page_of (page_tree pages page)) p alike))
-          (standing_edit k q (expanded_page pages page) page p retyped read.read read.utf8 s styled ended.unmarked ended.tags),
+          (standing_edit k q (expanded_page pages page) page p retyped read.read read.utf8 s styled ended.tags),
     )
 
 pair_fits : (pages : Pages) (page : List ℕ) (k : TextBlock) (q : List ℕ) (p : Pair) → IsContent k q → CallsNothing (block_items k q)

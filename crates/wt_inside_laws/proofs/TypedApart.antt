@@ -53,11 +53,11 @@ written_so k q t p s a =
 
 pub pair_apart : (pages : Pages) (page : List ℕ) (k : TextBlock) (q : List ℕ) (p : Pair) → IsContent k q → CallsNothing (block_items k q)
     → IsStanding (block_tree k q) p.old → IsRetyped same_node (expanded_page pages page) page p → IsAlike same_node (page_of (page_tree pages page)) p
-    → IsReadBlock p → HasEndedNodes k q p → IsTypedApart p
+    → IsReadBlock p → HasEndedNodes k q → IsTypedApart p
 pair_apart pages page k q p c r s retyped alike read ended =
     let styled : IsStyledIn k q = content_styled k q c r ended.ended in
     let edit : IsStyledEditOf k p.old (pieces_for p) =
-    standing_edit k q (expanded_page pages page) page p retyped read.read read.utf8 s styled ended.unmarked ended.tags in
+    standing_edit k q (expanded_page pages page) page p retyped read.read read.utf8 s styled ended.tags in
     record {
       block = k;
       text = q;
@@ -68,14 +68,14 @@ pair_apart pages page k q p c r s retyped alike read ended =
 
 -- ---- the block at a path
 
-record BlockThere (v : Tree) : Type 0 where
-  block : TextBlock
-  text : List ℕ
-  content : IsContent block text
-  calm : CallsNothing (block_items block text)
-  stands : IsStanding (block_tree block text) v
+pub record BlockThere (v : Tree) : Type 0 where
+  pub block : TextBlock
+  pub text : List ℕ
+  pub content : IsContent block text
+  pub calm : CallsNothing (block_items block text)
+  pub stands : IsStanding (block_tree block text) v
 
-block_there : (t : Tree) (ss : List BlockSpot) (ps : List (List ℕ)) (p : List ℕ) (v : Tree) → AreContents ss → CallNothing ss → AllStand ss ps t → IsOneOf p ps
+pub block_there : (t : Tree) (ss : List BlockSpot) (ps : List (List ℕ)) (p : List ℕ) (v : Tree) → AreContents ss → CallNothing ss → AllStand ss ps t → IsOneOf p ps
     → node_at p t ≡ Some v → BlockThere v
 block_there t [] [] p v c r st h e = absurd h
 block_there t [] (q ∷ ps) p v c r st h e = absurd st

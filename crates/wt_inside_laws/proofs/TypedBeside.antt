@@ -20,6 +20,7 @@ use Rattle.wt_text_edit_laws.specs.BlockSpots.{BlockSpot, spots_source}
 use Rattle.wt_text_edit_laws.specs.TextBlocks.{TextBlock, block_of}
 use Rattle.wt_beside_laws.specs.ContentEdits.{content_edit, new_content}
 use Rattle.wt_called_edit_laws.specs.CalledEdits.{IsCalledEditOf}
+use Rattle.wt_called_edit_laws.specs.CallingBlocks.{AreContentsInFolder}
 use Rattle.wt_called_edit_laws.specs.CallingContents.{IfSent, TakesContentsIn}
 use Rattle.wt_called_edit_laws.specs.CallingEdits.{IsCallingPage}
 use Rattle.wt_called_edit_laws.specs.CallingGroups.{block_with_groups}
@@ -108,6 +109,7 @@ record BlockThere (pages : Pages) (page : List ℕ) (v : Tree) : Type 0 where
 record BlocksKnown (pages : Pages) (page : List ℕ) (k : ℕ) (ss : List BlockSpot) (ps : List (List ℕ)) (es : Edits) : Type 0 where
   hold : EachHolds pages ss
   whole : EachWhole pages ss
+  contents : AreContentsInFolder pages ss
   named : AreNamed pages (expanded_page pages page).outer k ss
   own : HaveOwnSources (grouped_at (expanded_page pages page).outer pages k ss) ss
   blocks : AreOfBlocks (grouped_at (expanded_page pages page).outer pages k ss) ss (map (edited_by es) ps)
@@ -122,6 +124,7 @@ block_there pages page k (s ∷ ss) (p ∷ ps) es q m b (inl i) e a =
     let i0 : ℕ = calls_to pages k s in
     let hold = b.hold in
     let whole = b.whole in
+    let contents = b.contents in
     let named = b.named in
     let own = b.own in
     let blocks = b.blocks in
@@ -136,17 +139,19 @@ block_there pages page k (s ∷ ss) (p ∷ ps) es q m b (inl i) e a =
         calls = named.0;
         holds = hold.0;
         whole = whole.0;
+        content = contents.0;
         settled = subst (IsSettledAt (block_at pages page i0 s)) (same_old same_node (page_of (page_tree pages page)) m a) st;
       };
     }
 block_there pages page k (s ∷ ss) (p ∷ ps) es q m b (inr h) e a =
     let hold = b.hold in
     let whole = b.whole in
+    let contents = b.contents in
     let named = b.named in
     let own = b.own in
     let blocks = b.blocks in
     block_there pages page (calls_past pages k s) ss ps es q m
-    (record { hold = hold.1; whole = whole.1; named = named.1; own = own.1; blocks = blocks.1 }) h e a
+    (record { hold = hold.1; whole = whole.1; contents = contents.1; named = named.1; own = own.1; blocks = blocks.1 }) h e a
 
 -- ---- all marked blocks
 
@@ -175,6 +180,7 @@ beside_typed pages ss behind new c utf8 unrefused own there e =
     (record {
       hold = there.hold;
       whole = there.whole;
+      contents = there.outside.blocks.contents;
       named = block_calls pages ss behind there.outside.blocks.called;
       own = own;
       blocks = s.own;

@@ -17,6 +17,7 @@ use Rattle.wt_text_edit_laws.specs.Contents.{IsContent}
 use Rattle.wt_text_edit_laws.specs.NoCalls.{CallsNothing}
 use Rattle.wt_text_edit_laws.specs.TextBlocks.{TextBlock, source_of, block_items}
 use Rattle.wt_called_edit_laws.specs.CalledContents.{tree_round}
+use Rattle.wt_called_edit_laws.specs.CallingBlocks.{IsContentIn}
 use Rattle.wt_called_edit_laws.specs.Groups.{called_tree}
 use Rattle.wt_called_edit_laws.specs.PartTexts.{AreSourcesAt}
 use Rattle.wt_called_edit_laws.specs.SettledAt.{IsSettledAt}
@@ -36,12 +37,13 @@ pub record IsBlockOf (pages : Pages) (page : List ℕ) (k : TextBlock) (q : List
   pub calls : AreSourcesAt (expanded_page pages page).outer before (expanded_page pages (source_of k q)).outer
   pub holds : HoldsAnywhere pages k q
   pub whole : IsWholeIn pages k q
+  pub content : IsContentIn pages k q
 
 -- a marked block calls nothing, and its nodes are as in any such block
 pub record IsCalmBlock (k : TextBlock) (q : List ℕ) (p : Pair) : Type 0 where
   pub content : IsContent k q
   pub calls_nothing : CallsNothing (block_items k q)
-  pub nodes : HasEndedNodes k q p
+  pub nodes : HasEndedNodes k q
 
 -- a marked block is such a one, or texts may be typed beside its calls, whatever its source is
 abbrev pub IsBesideBlock : Pages → List ℕ → Pair → Type 0

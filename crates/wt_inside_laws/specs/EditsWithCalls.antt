@@ -1,5 +1,5 @@
--- Text edits of paragraphs and headings of a page, which may hold calls: what is asked of them.
-use Rattle.std.specs.Prelude.{◌≡◌, ◌≤◌, ℕ, Option, None, List, length}
+-- Text edits of paragraphs and headings of a page, with calls in them or without: what is asked of them.
+use Rattle.std.specs.Prelude.{◌≡◌, ◌⊎◌, ◌≤◌, ℕ, Option, None, List, length}
 use Rattle.std.specs.List.{AllByRecursion}
 use Rattle.std.specs.Str.{IsUtf8}
 use Rattle.wt_span.specs.declared.limits.TheConstants.{PAGE_BYTES}
@@ -17,6 +17,7 @@ use Rattle.wt_called_edit_laws.specs.EditableNodes.{IsEditableNode}
 use Rattle.wt_called_edit_laws.specs.PiecedParagraphs.{IsInPieces, IsHeadingInPieces, IsTextAndCalls, IsHeadingOfCalls}
 use Rattle.wt_inside_laws.specs.BesideEdits.{IsBesideBlock}
 use Rattle.wt_inside_laws.specs.TextEdits.{IsTextEdit}
+use Rattle.wt_inside_laws.specs.ToldEdits.{IsOrdinaryOn}
 
 -- as blocks in pieces are: each piece is a node of the page, or calls nothing
 abbrev pub AreInTheirPieces : Pages → TextBlock → List ℕ → Type 0
@@ -28,30 +29,34 @@ abbrev pub AreTextsAndCalls : Pages → TextBlock → List ℕ → Type 0
 AreTextsAndCalls pages a_paragraph q = IsTextAndCalls pages q
 AreTextsAndCalls pages (a_heading s) q = IsHeadingOfCalls pages s q
 
--- A marked block is none of those that lines or calls except, its content may be edited, and it calls nothing and is ordinary, or texts may be typed beside
--- its calls.
-pub record MayHoldCalls (pages : Pages) (page : List ℕ) (p : Pair) : Type 0 where
-  pub unexcepted : IsExceptedCalling pages page p.old → ⊥
+-- The content of a marked block may be edited with its calls, and it calls nothing and is ordinary, or texts may be typed beside its calls.
+pub record IsCallingOn (pages : Pages) (page : List ℕ) (p : Pair) : Type 0 where
   pub editable : IsEditableNode pages p.old
   pub beside : IsBesideBlock pages page p
 
--- A text edit of a page that isn't refused: each marked block is such a one.
-pub record MarksBlocksWithCalls (pages : Pages) (page : List ℕ) (new : Tree) : Type 0 where
-  pub edit : IsTextEdit same_node (expanded_page pages page) page (page_tree pages page) new
-  pub blocks : AllByRecursion (MayHoldCalls pages page) (marked (page_tree pages page) new)
+-- It is none of those that lines or calls except, and is ordinary on this page, or such a one.
+pub record MayHoldCalls (pages : Pages) (page : List ℕ) (p : Pair) : Type 0 where
+  pub unexcepted : IsExceptedCalling pages page p.old → ⊥
+  pub held : IsOrdinaryOn pages page p ⊎ IsCallingOn pages page p
 
--- HTML is read as such an edit.
-pub record IsEditWithCalls (pages : Pages) (page input : List ℕ) (new : Tree) (unsourced : Option ℕ) : Type 0 where
+-- Each marked block is ordinary; or some may hold calls.
+abbrev pub MayBeMarked : Pages → List ℕ → List Pair → Type 0
+MayBeMarked pages page ps = AllByRecursion (IsOrdinaryOn pages page) ps ⊎ AllByRecursion (MayHoldCalls pages page) ps
+
+-- HTML is read as a text edit, of such blocks, of a page that isn't refused.
+pub record IsMarkedEdit (pages : Pages) (page input : List ℕ) (new : Tree) (unsourced : Option ℕ) : Type 0 where
   pub utf8 : IsUtf8 page
   pub short : length page ≤ PAGE_BYTES
   pub unrefused : refusal_of_page pages page ≡ None
   pub sent : read input ≡ as_page new unsourced
-  pub edit : MarksBlocksWithCalls pages page new
+  pub edit : IsTextEdit same_node (expanded_page pages page) page (page_tree pages page) new
+  pub blocks : MayBeMarked pages page (marked (page_tree pages page) new)
 
 -- HTML without marks: with the marks of its difference from the page (`remarked_of`) it is such an edit.
-pub record IsDifferenceWithCalls (pages : Pages) (page input : List ℕ) (new : Tree) (unsourced : Option ℕ) : Type 0 where
+pub record IsMarkedDifference (pages : Pages) (page input : List ℕ) (new : Tree) (unsourced : Option ℕ) : Type 0 where
   pub utf8 : IsUtf8 page
   pub short : length page ≤ PAGE_BYTES
   pub unrefused : refusal_of_page pages page ≡ None
   pub sent : read input ≡ as_page new unsourced
-  pub edit : MarksBlocksWithCalls pages page (remarked_of pages page new)
+  pub edit : IsTextEdit same_node (expanded_page pages page) page (page_tree pages page) (remarked_of pages page new)
+  pub blocks : MayBeMarked pages page (marked (page_tree pages page) (remarked_of pages page new))

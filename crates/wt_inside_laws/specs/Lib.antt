@@ -17,6 +17,8 @@ pub mod HtmlEdits
 pub mod BesideEdits
 pub mod EditsWithCalls
 pub mod TextAndCallBlocks
+pub mod SectionsAlike
 pub mod LocalTextEdits
 pub mod TypedApart
 pub mod TypedBeside
+pub mod NodeBlocks

@@ -12,10 +12,13 @@ use Rattle.wt_typed_blocks.specs.Edited.{page_nodes}
 use Rattle.wt_called_edit_laws.specs.Groups.{called_tree}
 use Rattle.wt_called_edit_laws.specs.LocalChange.{IsLocalChange}
 use Rattle.wt_inside_laws.specs.AsSent.{edits_of, paths_of, node_at}
+use Rattle.wt_inside_laws.specs.SectionsAlike.{AreInSectionsAs}
 
--- What was sent is an edit of the page's own nodes, at the marked blocks and nowhere else; and between the page and the new page it is local.
+-- What was sent is an edit of the page's own nodes, at the marked blocks and nowhere else; between the page and the new page it is local; and the new page
+-- has the page's sections, with what they hold.
 pub record IsLocalTextEdit (pages : Pages) (page : List ℕ) (new : Tree) : Type 0 where
   pub old : page_nodes (edits_of (called_tree pages page) new) ≡ children (called_tree pages page)
   pub at : map (λ path. node_at path (called_tree pages page)) (paths_of (edits_of (called_tree pages page) new))
       ≡ map (λ p. Some p.old) (marked (page_tree pages page) new)
+  pub sections : AreInSectionsAs (children (page_tree pages page)) (children (page_tree pages (spliced page (slices same_node (page_tree pages page) new))))
   pub local : IsLocalChange pages page (spliced page (slices same_node (page_tree pages page) new)) (edits_of (called_tree pages page) new)

@@ -11,8 +11,6 @@ use Rattle.wt_tree.specs.EditShapes.{edit_shape}
 use Rattle.wt_checks.specs.WithoutMarks.{mark_off}
 use Rattle.wt_link_spelling.specs.Spelling.{children_of}
 use Rattle.wt_typed_blocks.specs.Sent.{IsSentAsIs, StandsAsIs}
-use Rattle.wt_text_edit_laws.specs.TextBlocks.{TextBlock, a_paragraph, a_heading}
-use Rattle.wt_beside_laws.specs.OwnLed.{begin_marked}
 use Rattle.wt_called_edit_laws.specs.SentAsIs.{as_sent}
 use Rattle.wt_typed_blocks.specs.Edited.{IsStyle, Pieces, no_pieces, gone, written, kept, around, new_style, page_pieces, sent_pieces}
 
@@ -167,8 +165,3 @@ StaysWith t u = (label u).id ≡ (label t).id → IsAsItWas (edit_shape (label t
 -- each node of the content is sent as it is
 abbrev pub NodesStay : Trees → Trees → Type 0
 NodesStay old new = AllByRecursion (λ t. AllByRecursion (λ u. StaysWith t u) (nodes new)) (nodes old)
-
--- no mark is first in a heading
-abbrev pub BeginsUnmarked : TextBlock → Tree → Type 0
-BeginsUnmarked a_paragraph t = Unit {0}
-BeginsUnmarked (a_heading s) t = begin_marked (children_of t) ≡ false

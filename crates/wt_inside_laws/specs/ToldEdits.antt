@@ -21,7 +21,7 @@ use Rattle.wt_called_edit_laws.specs.AllTold.{IsExcepted}
 use Rattle.wt_called_edit_laws.specs.EditsAt.{IsStanding}
 use Rattle.wt_called_edit_laws.specs.Groups.{called_tree}
 use Rattle.wt_inside_laws.specs.AsSent.{edits_of, paths_of, AreSomeOf, IsReadFor}
-use Rattle.wt_inside_laws.specs.RetypedPieces.{AreRead, AreUtf8, BeginsUnmarked}
+use Rattle.wt_inside_laws.specs.RetypedPieces.{AreRead, AreUtf8}
 use Rattle.wt_inside_laws.specs.TextEdits.{IsTextEdit}
 
 -- ---- a marked block
@@ -31,16 +31,15 @@ pub record IsReadBlock (p : Pair) : Type 0 where
   pub read : AreRead (children_of p.new)
   pub utf8 : AreUtf8 (children_of p.new)
 
--- Of its nodes: what begins in a node ends in it, and a tag does behind one that opens a pair and isn't closed on its line; and no heading begins with a
--- mark.
-pub record HasEndedNodes (k : TextBlock) (q : List ℕ) (p : Pair) : Type 0 where
+-- Of its nodes: what begins in a node ends in it; and behind a tag that opens a pair and isn't closed on its line so does a tag that a comment, an
+-- include tag or a hidden part hides.
+pub record HasEndedNodes (k : TextBlock) (q : List ℕ) : Type 0 where
   pub ended : AreEndedNodes (signs_in k q)
   pub tags : EndTags (signs_in k q)
-  pub unmarked : BeginsUnmarked k p.old
 
 -- whatever its source is
 abbrev pub IsOrdinary : Pair → Type 0
-IsOrdinary p = (k : TextBlock) (q : List ℕ) → IsStanding (block_tree k q) p.old → HasEndedNodes k q p
+IsOrdinary p = (k : TextBlock) (q : List ℕ) → IsStanding (block_tree k q) p.old → HasEndedNodes k q
 
 -- So on this page: it holds no group, and the lines of the expanded page tell it.
 pub record IsOrdinaryOn (pages : Pages) (page : List ℕ) (p : Pair) : Type 0 where

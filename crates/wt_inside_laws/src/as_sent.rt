@@ -33,7 +33,7 @@ ghost use Rattle.wt_called_edit_laws.specs.LinedCalling.{IsLinedCalling};
 ghost use Rattle.wt_called_edit_laws.specs.PlacedLines.{LinedBlock};
 ghost use Rattle.wt_inside_laws.specs.AsSent.{edits_of, IsPlainPage, IsReadFor, IsAlike, IsAsSent, IsSentOn};
 ghost use Rattle.wt_inside_laws.specs.BesideEdits.{IsBesideEdit, IsBesideHtml};
-ghost use Rattle.wt_inside_laws.specs.EditsWithCalls.{AreInTheirPieces, AreTextsAndCalls, IsEditWithCalls, IsDifferenceWithCalls};
+ghost use Rattle.wt_inside_laws.specs.EditsWithCalls.{AreInTheirPieces, AreTextsAndCalls, IsMarkedEdit, IsMarkedDifference};
 ghost use Rattle.wt_inside_laws.specs.HtmlEdits.{IsHtmlEdit};
 ghost use Rattle.wt_inside_laws.specs.LocalTextEdits.{IsLocalTextEdit};
 ghost use Rattle.wt_inside_laws.specs.RetypedPieces.{AreRead, AreUtf8};
@@ -131,18 +131,19 @@ pub fn text_edits_are_done()
         → IsOrdinaryEdit pages page bytes (unranged (called_tree pages page)) None }
 {}
 
-/// So is each where the marked blocks may hold calls, if the content of each calls nothing, or may be edited with its calls
-/// (`IsEditableNode`), as one in pieces or of texts and calls may, and none is excepted for its lines or calls.
+/// So is each in which some of the marked blocks hold calls (`IsMarkedEdit`): the content of these may be edited with its
+/// calls (`IsEditableNode`), as one in pieces or of texts and calls may, texts may be typed beside them, the others are
+/// ordinary, and none is excepted for its lines or calls.
 #[tactic(auto)]
 pub fn text_edits_with_calls_are_done()
     ensures tree { (pages : Pages) (page input : List ℕ) (new : Tree) (unsourced : Option ℕ)
-        → IsEditWithCalls pages page input new unsourced
+        → IsMarkedEdit pages page input new unsourced
         → edit_to pages page new ≡ done (spliced page (slices same_node (page_tree pages page) new)) }
     ensures html { (pages : Pages) (page input : List ℕ) (new : Tree) (unsourced : Option ℕ)
-        → IsEditWithCalls pages page input new unsourced → length input ≤ HTML_BYTES
+        → IsMarkedEdit pages page input new unsourced → length input ≤ HTML_BYTES
         → edit_of pages (Some page) input ≡ done (spliced page (slices same_node (page_tree pages page) new)) }
     ensures local { (pages : Pages) (page input : List ℕ) (new : Tree) (unsourced : Option ℕ)
-        → IsEditWithCalls pages page input new unsourced → IsLocalTextEdit pages page new }
+        → IsMarkedEdit pages page input new unsourced → IsLocalTextEdit pages page new }
     ensures pieces { (pages : Pages) (k : TextBlock) (q : List ℕ) → AreInTheirPieces pages k q → IsEditable pages k q }
     ensures calls { (pages : Pages) (k : TextBlock) (q : List ℕ) → AreTextsAndCalls pages k q → IsEditable pages k q }
 {}
@@ -157,6 +158,6 @@ pub fn text_edits_without_marks_are_done()
         → IsOrdinaryDifference pages page input new unsourced → stands ≡ Some page → length input ≤ HTML_BYTES
         → DoneByEdit pages stands input }
     ensures calls { (pages : Pages) (page input : List ℕ) (new : Tree) (unsourced : Option ℕ) (stands : Option (List ℕ))
-        → IsDifferenceWithCalls pages page input new unsourced → stands ≡ Some page → length input ≤ HTML_BYTES
+        → IsMarkedDifference pages page input new unsourced → stands ≡ Some page → length input ≤ HTML_BYTES
         → DoneByEdit pages stands input }
 {}

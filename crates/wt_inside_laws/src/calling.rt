@@ -10,16 +10,19 @@ ghost use Rattle.wt_span.specs.declared.limits.TheConstants.{PAGE_BYTES};
 ghost use Rattle.wt_span.specs.Origins.{Expanded};
 ghost use Rattle.wt_link_spelling.specs.Spelling.{children_of};
 ghost use Rattle.wt_visible.specs.SameNodes.{same_node};
+ghost use Rattle.wt_expand.specs.PageCalls.{expanded_page};
 ghost use Rattle.wt_expand.specs.Work.{Pages};
 ghost use Rattle.wt_slices.specs.Changes.{Pair};
 ghost use Rattle.wt_commands.specs.Answers.{refusal_of_page};
 ghost use Rattle.wt_text_edit_laws.specs.TextBlocks.{TextBlock};
+ghost use Rattle.wt_called_edit_laws.specs.BlockNodes.{IsOfNodes};
 ghost use Rattle.wt_called_edit_laws.specs.CallingContents.{FitsIn};
 ghost use Rattle.wt_called_edit_laws.specs.Groups.{called_tree};
 ghost use Rattle.wt_called_edit_laws.specs.PiecedParagraphs.{IsTextAndCalls};
 ghost use Rattle.wt_called_edit_laws.specs.RowBlocks.{IsReachedAt};
 ghost use Rattle.wt_inside_laws.specs.AsSent.{edit_for};
 ghost use Rattle.wt_inside_laws.specs.BesideEdits.{IsBesideBlock};
+ghost use Rattle.wt_inside_laws.specs.NodeBlocks.{IsNodeBlock};
 ghost use Rattle.wt_inside_laws.specs.RetypedCalls.{IsCallingNode, IsBeside, AreOwnTexts};
 ghost use Rattle.wt_inside_laws.specs.RetypedPieces.{AreRead, AreUtf8};
 ghost use Rattle.wt_inside_laws.specs.TextAndCallBlocks.{DoCallsMeet, IsTextAndCallBlock};
@@ -52,4 +55,13 @@ pub fn blocks_of_texts_and_calls_take_texts()
     ensures blocks { (pages : Pages) (page : List ℕ) (p : Pair) → IsTextAndCallBlock pages p.old → IsBesideBlock pages page p }
     ensures paragraphs { (pages : Pages) (t : Tree) → (label t).kind ≡ kind.Para → (h : IsTextAndCalls pages (flat t))
         → DoCallsMeet pages t h.pieces → IsTextAndCallBlock pages t }
+{}
+
+/// In a marked block of the page's tree whose nodes are texts, calls, other nodes, and bold and italic round such (`IsOfNodes` of
+/// `wt_called_edit_laws`), texts may be typed beside its calls (`IsBesideBlock`), in its bold and italic, too. Of each node its source is asked.
+#[tactic(auto)]
+pub fn blocks_of_nodes_take_texts()
+    ensures blocks { (pages : Pages) (page : List ℕ) (p : Pair) → IsRetyped same_node (expanded_page pages page) page p
+        → IsNodeBlock pages p.old → IsBesideBlock pages page p }
+    ensures paragraphs { (pages : Pages) (t : Tree) → (label t).kind ≡ kind.Para → IsOfNodes pages t → IsNodeBlock pages t }
 {}

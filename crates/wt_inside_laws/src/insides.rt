@@ -17,7 +17,7 @@ ghost use Rattle.wt_called_edit_laws.specs.SentAsIs.{HaveNumberedGroups};
 ghost use Rattle.wt_inside_laws.specs.Contents.{borders, texts};
 ghost use Rattle.wt_inside_laws.specs.Once.{HasOnce};
 ghost use Rattle.wt_inside_laws.specs.Replaced.{Edit, with_inside};
-ghost use Rattle.wt_inside_laws.specs.RetypedPieces.{pieces_of, as_own, AreRead, AreUtf8, ArePiecesOf, NodesStay, BeginsUnmarked};
+ghost use Rattle.wt_inside_laws.specs.RetypedPieces.{pieces_of, as_own, AreRead, AreUtf8, ArePiecesOf, NodesStay};
 ghost use Rattle.wt_inside_laws.specs.Swaps.{Swap};
 ghost use Rattle.wt_inside_laws.specs.TextEdits.{IsRetyped};
 
@@ -60,12 +60,11 @@ pub fn own_pieces_are_sent_as_they_are()
 
 /// So a retyped paragraph or heading of the page, whose content may be edited (`IsStyledIn`), is edited by what was sent for it, with the
 /// page's own nodes: its nodes and styles stay in their order, its texts go and others come, in a heading on one line, none in a style has a
-/// line break, and a line begins before each line of comments. Asked is that what was sent is as it is read, of a heading that it
-/// begins with no mark, and that behind a tag that opens a pair and isn't closed on its line no node of this line ends in a tag that
-/// isn't ended (`EndTags`).
+/// line break, and a line begins before each line of comments. Asked is that what was sent is as it is read, and that behind a tag that
+/// opens a pair and isn't closed on its line no node of this line ends in a tag that isn't ended, with something hidden in it (`EndTags`).
 #[tactic(auto)]
 pub fn retyped_blocks_are_edited()
     ensures { (k : TextBlock) (q : List ℕ) (items : Expanded) (page : List ℕ) (p : Pair) → IsRetyped same_node items page p
-        → AreRead (children_of p.new) → AreUtf8 (children_of p.new) → IsStanding (block_tree k q) p.old → IsStyledIn k q → BeginsUnmarked k p.old → EndTags (signs_in k q)
+        → AreRead (children_of p.new) → AreUtf8 (children_of p.new) → IsStanding (block_tree k q) p.old → IsStyledIn k q → EndTags (signs_in k q)
         → IsStyledEditOf k p.old (as_own (pieces_of (children_of p.old) (children_of p.new))) }
 {}

@@ -15,7 +15,7 @@ pub use as_sent::{
     text_edits_of_told_blocks_are_done, what_is_read_may_be_sent,
 };
 pub use calling::{
-    blocks_of_texts_and_calls_take_texts, retyped_blocks_that_call_fit,
+    blocks_of_nodes_take_texts, blocks_of_texts_and_calls_take_texts, retyped_blocks_that_call_fit,
     texts_of_blocks_show_their_sources,
 };
 pub use edges::blocks_meet_plainly;

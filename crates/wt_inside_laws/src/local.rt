@@ -16,7 +16,7 @@ ghost use Rattle.wt_called_edit_laws.specs.LinedCalling.{IsLinedCalling};
 ghost use Rattle.wt_called_edit_laws.specs.LocalChange.{ExpandsAlike};
 ghost use Rattle.wt_called_edit_laws.specs.PlacedLines.{LinedBlock};
 ghost use Rattle.wt_inside_laws.specs.BesideEdits.{IsBesideEdit};
-ghost use Rattle.wt_inside_laws.specs.EditsWithCalls.{IsEditWithCalls};
+ghost use Rattle.wt_inside_laws.specs.EditsWithCalls.{IsMarkedEdit};
 ghost use Rattle.wt_inside_laws.specs.LocalTextEdits.{IsLocalTextEdit};
 ghost use Rattle.wt_inside_laws.specs.ToldEdits.{IsOrdinaryEdit};
 ghost use Rattle.wt_inside_laws.specs.TypedApart.{IsTypedApart};
@@ -61,5 +61,5 @@ pub fn marked_blocks_make_nothing_else()
 #[tactic(auto)]
 pub fn marked_blocks_with_calls_make_nothing_else()
     ensures { (pages : Pages) (page input : List ℕ) (new : Tree) (unsourced : Option ℕ)
-        → IsEditWithCalls pages page input new unsourced → AllByRecursion (IsTypedIn pages) (marked (page_tree pages page) new) }
+        → IsMarkedEdit pages page input new unsourced → AllByRecursion (IsTypedIn pages) (marked (page_tree pages page) new) }
 {}

@@ -25,14 +25,13 @@ use Rattle.wt_program.proofs.BlocksCalls.{page_ends, page_completes}
 use Rattle.wt_program.specs.EditCalls.{retyped_page, TakesToldEdits, TakesBesideEdits, TakesDifferences, TakesTextEdits}
 use Rattle.wt_inside_laws.specs.BesideEdits.{IsBesideHtml}
 use Rattle.wt_inside_laws.specs.HtmlEdits.{IsHtmlEdit}
-use Rattle.wt_inside_laws.specs.EditsWithCalls.{IsEditWithCalls, IsDifferenceWithCalls}
-use Rattle.wt_inside_laws.specs.ToldEdits.{IsOrdinaryEdit, IsOrdinaryDifference}
+use Rattle.wt_inside_laws.specs.EditsWithCalls.{IsMarkedEdit}
 use Rattle.wt_inside_laws.proofs.BesideEdits.{calling_edit_done, html_beside}
 use Rattle.wt_inside_laws.proofs.HtmlEdits.{html_lined}
-use Rattle.wt_inside_laws.proofs.LocalTextEdits.{ordinary_local, calling_local}
-use Rattle.wt_inside_laws.proofs.EditsWithCalls.{calls_done, calls_local, calls_difference}
-use Rattle.wt_inside_laws.proofs.OrdinaryEdits.{ordinary_done, difference_written}
+use Rattle.wt_inside_laws.proofs.LocalTextEdits.{ordinary_alike, calling_local}
+use Rattle.wt_inside_laws.proofs.EditsWithCalls.{marked_done, marked_local, marked_typed, marked_difference}
 use Rattle.wt_inside_laws.proofs.ToldEdits.{lined_edit_done}
+use Rattle.wt_inside_laws.proofs.TypedBeside.{calling_typed_apart}
 
 pages_or : Pages → Option Pages → Pages
 pages_or pages None = pages
@@ -65,13 +64,13 @@ calls_take_told c ended ends = λ pages page bs rest told h.
 
 -- ---- of any page that isn't refused
 
-ordinary_answered : (c : Call) (pages : Pages) (page : List ℕ) (new : Tree) → c.folder.pages_before ≡ Some pages
-    → (s : SendsFor c Edit page (retyped_page pages page new) (λ b. new)) → IsOrdinaryEdit pages page s.input new s.unsourced
+marked_answered : (c : Call) (pages : Pages) (page : List ℕ) (new : Tree) → c.folder.pages_before ≡ Some pages
+    → (s : SendsFor c Edit page (retyped_page pages page new) (λ b. new)) → IsMarkedEdit pages page s.input new s.unsourced
     → known_answer c ≡ Some (done (retyped_page pages page new))
-ordinary_answered c pages page new told s e =
+marked_answered c pages page new told s e =
     answer_is c page (retyped_page pages page new) (λ b. new) e.utf8 s
     (subst (λ (ps : Pages). edit_to ps page new ≡ done (retyped_page pages page new)) (same_pages pages s.pages (sym told ∙ s.told))
-    (ordinary_done pages page s.input new s.unsourced e))
+    (marked_done pages page s.input new s.unsourced e))
 
 -- ---- of blocks that may hold calls
 
@@ -95,52 +94,32 @@ calls_take_beside c ended ends = λ pages page bs rest told h.
       edit = λ new s e. page_ends c ended (retyped_page pages page new) (beside_answered c pages page bs rest new told h t s e) ends;
       complete = λ new s e sound. page_completes c ended (retyped_page pages page new) (beside_answered c pages page bs rest new told h t s e) ends sound;
       local = λ input new unsourced e. calling_local pages page bs rest new h t (html_beside pages page input bs rest t.paths new unsourced h e);
+      apart = λ input new unsourced e. calling_typed_apart pages page bs rest new h t (html_beside pages page input bs rest t.paths new unsourced h e);
     }
-
--- ---- of marked blocks that may hold calls
-
-calling_answered : (c : Call) (pages : Pages) (page : List ℕ) (new : Tree) → c.folder.pages_before ≡ Some pages
-    → (s : SendsFor c Edit page (retyped_page pages page new) (λ b. new)) → IsEditWithCalls pages page s.input new s.unsourced
-    → known_answer c ≡ Some (done (retyped_page pages page new))
-calling_answered c pages page new told s e =
-    answer_is c page (retyped_page pages page new) (λ b. new) e.utf8 s
-    (subst (λ (ps : Pages). edit_to ps page new ≡ done (retyped_page pages page new)) (same_pages pages s.pages (sym told ∙ s.told))
-    (calls_done pages page s.input new s.unsourced e))
 
 -- ---- without marks
 
 same_told : (c : Call) (pages others : Pages) → c.folder.pages_before ≡ Some pages → c.folder.pages_before ≡ Some others → pages ≡ others
 same_told c pages others a b = same_pages pages others (sym a ∙ b)
 
-calls_take_differences : (c : Call) (ended : ℕ) → EndsAsEdit c ended → TakesDifferences IsOrdinaryDifference c ended
+calls_take_differences : (c : Call) (ended : ℕ) → EndsAsEdit c ended → TakesDifferences c ended
 calls_take_differences c ended ends = λ pages page new told s e.
     selser_ends c ended page (retyped_page pages page (remarked_of pages page new)) (λ b. new) s
     (subst (λ (ps : Pages). DoneByEdit ps (s.pages s.title) s.input) (same_told c pages s.pages told s.told)
-    (difference_written pages page s.input new s.unsourced (s.pages s.title) e s.found s.within)) ends
-
-calls_take_calling : (c : Call) (ended : ℕ) → EndsAsEdit c ended → TakesDifferences IsDifferenceWithCalls c ended
-calls_take_calling c ended ends = λ pages page new told s e.
-    selser_ends c ended page (retyped_page pages page (remarked_of pages page new)) (λ b. new) s
-    (subst (λ (ps : Pages). DoneByEdit ps (s.pages s.title) s.input) (same_told c pages s.pages told s.told)
-    (calls_difference pages page s.input new s.unsourced (s.pages s.title) e s.found s.within)) ends
+    (marked_difference pages page s.input new s.unsourced (s.pages s.title) e s.found s.within)) ends
 
 -- ---- all
 
 pub calls_take_edits : (c : Call) (ended : ℕ) → Ends c ended → EndsAsEdit c ended → TakesTextEdits c ended
 calls_take_edits c ended ends as_edit = record {
-  ordinary = record {
-    edit = λ pages page new told s e. page_ends c ended (retyped_page pages page new) (ordinary_answered c pages page new told s e) ends;
+  edits = record {
+    edit = λ pages page new told s e. page_ends c ended (retyped_page pages page new) (marked_answered c pages page new told s e) ends;
     complete = λ pages page new told s e no.
-        page_completes c ended (retyped_page pages page new) (ordinary_answered c pages page new told s e) ends no;
-    local = ordinary_local;
-  };
-  calling = record {
-    edit = λ pages page new told s e. page_ends c ended (retyped_page pages page new) (calling_answered c pages page new told s e) ends;
-    complete = λ pages page new told s e no.
-        page_completes c ended (retyped_page pages page new) (calling_answered c pages page new told s e) ends no;
-    local = calls_local;
+        page_completes c ended (retyped_page pages page new) (marked_answered c pages page new told s e) ends no;
+    local = marked_local;
+    alike = ordinary_alike;
+    apart = marked_typed;
   };
   selser = calls_take_differences c ended as_edit;
-  selser_calling = calls_take_calling c ended as_edit;
   beside = calls_take_beside c ended ends;
 }

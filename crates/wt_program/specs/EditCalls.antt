@@ -1,10 +1,12 @@
 -- Calls of the program that send a text edit of a page, and how they end.
 use Rattle.std.specs.Prelude.{◌≡◌, ◌⊎◌, ℕ, List, Option, Some}
+use Rattle.std.specs.List.{AllByRecursion}
 use Rattle.wt_span.specs.Items.{Item}
 use Rattle.wt_devices.specs.Device.{Pages}
 use Rattle.wt_tree.specs.Tree.{Tree}
 use Rattle.wt_page_round_trip.specs.PageTree.{page_tree}
 use Rattle.wt_slices.specs.BodySlices.{slices}
+use Rattle.wt_slices.specs.Changes.{marked}
 use Rattle.wt_splice.specs.Splice.{spliced}
 use Rattle.wt_visible.specs.SameNodes.{same_node}
 use Rattle.wt_commands.specs.declared.command.Command.TheVariants.{Edit, Selser}
@@ -18,15 +20,17 @@ use Rattle.wt_called_edit_laws.specs.CallingGroups.{block_with_groups}
 use Rattle.wt_called_edit_laws.specs.EditsAt.{AllStand}
 use Rattle.wt_called_edit_laws.specs.LinedAmong.{spots_of_lines, end_of_lines, IsLinedAmong}
 use Rattle.wt_called_edit_laws.specs.LinedCalling.{IsLinedCalling}
+use Rattle.wt_called_edit_laws.specs.LocalChange.{ExpandsAlike}
 use Rattle.wt_called_edit_laws.specs.PlacedLines.{LinedBlock}
 use Rattle.wt_called_edit_laws.specs.SettledAt.{AllSettled}
 use Rattle.wt_program.specs.AnyCalls.{SendsFor}
 use Rattle.wt_program.specs.Calls.{WroteNewPage}
 use Rattle.wt_inside_laws.specs.BesideEdits.{IsBesideHtml}
-use Rattle.wt_inside_laws.specs.EditsWithCalls.{IsEditWithCalls, IsDifferenceWithCalls}
+use Rattle.wt_inside_laws.specs.EditsWithCalls.{IsMarkedEdit, IsMarkedDifference}
 use Rattle.wt_inside_laws.specs.HtmlEdits.{IsHtmlEdit}
 use Rattle.wt_inside_laws.specs.LocalTextEdits.{IsLocalTextEdit}
-use Rattle.wt_inside_laws.specs.ToldEdits.{IsOrdinaryEdit, IsOrdinaryDifference}
+use Rattle.wt_inside_laws.specs.ToldEdits.{IsOrdinaryEdit}
+use Rattle.wt_inside_laws.specs.TypedBeside.{IsTypedIn}
 
 -- the page with the insides of its marked blocks replaced by what was sent for them, as it is spelled
 abbrev pub retyped_page : Pages → List ℕ → Tree → List ℕ
@@ -59,6 +63,8 @@ pub record TakesBesideThere (c : Call) (ended : ℕ) (pages : Pages) (page : Lis
   pub complete : (new : Tree) → (s : SendsFor c Edit page (retyped_page pages page new) (λ b. new)) → IsBesideHtml pages page s.input paths new s.unsourced
       → NothingFailed c → WroteNewPage c ended (retyped_page pages page new) ⊎ (ended ≡ code status.NoMemory)
   pub local : (input : List ℕ) (new : Tree) (unsourced : Option ℕ) → IsBesideHtml pages page input paths new unsourced → IsLocalTextEdit pages page new
+  pub apart : (input : List ℕ) (new : Tree) (unsourced : Option ℕ) → IsBesideHtml pages page input paths new unsourced
+      → AllByRecursion (IsTypedIn pages) (marked (page_tree pages page) new)
 
 abbrev pub TakesBesideEdits : Call → ℕ → Type 0
 TakesBesideEdits c ended =
@@ -68,28 +74,33 @@ TakesBesideEdits c ended =
 -- Where a call sends HTML that is such an edit of a page,
 -- * `edit` has written the page with the insides of the marked blocks replaced; or a device failed, or memory ran out;
 -- * where no device failed, only want of memory may come in its place;
--- * the edit is local: what the page means outside of these blocks stays, moved by the bytes that were added before it.
-pub record TakesEach (IsSuch : Pages → List ℕ → List ℕ → Tree → Option ℕ → Type 0) (c : Call) (ended : ℕ) : Type 0 where
+-- * the edit is local: what the page means outside of these blocks stays, moved by the bytes that were added before it; where these call nothing, each
+--   call gives what it gave, for the same work;
+-- * what is written for each of these blocks makes nothing but what was typed, beside the calls and the nodes that stay.
+pub record TakesMarked (c : Call) (ended : ℕ) : Type 0 where
   pub edit : (pages : Pages) (page : List ℕ) (new : Tree) → c.folder.pages_before ≡ Some pages
-      → (s : SendsFor c Edit page (retyped_page pages page new) (λ b. new)) → IsSuch pages page s.input new s.unsourced
+      → (s : SendsFor c Edit page (retyped_page pages page new) (λ b. new)) → IsMarkedEdit pages page s.input new s.unsourced
       → WroteNewPage c ended (retyped_page pages page new) ⊎ IsFaultOrNoMemory ended
   pub complete : (pages : Pages) (page : List ℕ) (new : Tree) → c.folder.pages_before ≡ Some pages
-      → (s : SendsFor c Edit page (retyped_page pages page new) (λ b. new)) → IsSuch pages page s.input new s.unsourced → NothingFailed c
+      → (s : SendsFor c Edit page (retyped_page pages page new) (λ b. new)) → IsMarkedEdit pages page s.input new s.unsourced → NothingFailed c
       → WroteNewPage c ended (retyped_page pages page new) ⊎ (ended ≡ code status.NoMemory)
-  pub local : (pages : Pages) (page input : List ℕ) (new : Tree) (unsourced : Option ℕ) → IsSuch pages page input new unsourced → IsLocalTextEdit pages page new
+  pub local : (pages : Pages) (page input : List ℕ) (new : Tree) (unsourced : Option ℕ) → IsMarkedEdit pages page input new unsourced
+      → IsLocalTextEdit pages page new
+  pub alike : (pages : Pages) (page input : List ℕ) (new : Tree) (unsourced : Option ℕ) → IsOrdinaryEdit pages page input new unsourced
+      → ExpandsAlike pages page (retyped_page pages page new)
+  pub apart : (pages : Pages) (page input : List ℕ) (new : Tree) (unsourced : Option ℕ) → IsMarkedEdit pages page input new unsourced
+      → AllByRecursion (IsTypedIn pages) (marked (page_tree pages page) new)
 
 -- Where a call of `selser` sends HTML without marks, whose difference from a page is such an edit, it is done; or a device failed, or memory ran out.
-abbrev pub TakesDifferences : (Pages → List ℕ → List ℕ → Tree → Option ℕ → Type 0) → Call → ℕ → Type 0
-TakesDifferences IsSuch c ended =
+abbrev pub TakesDifferences : Call → ℕ → Type 0
+TakesDifferences c ended =
     (pages : Pages) (page : List ℕ) (new : Tree) → c.folder.pages_before ≡ Some pages
-    → (s : SendsFor c Selser page (retyped_page pages page (remarked_of pages page new)) (λ b. new)) → IsSuch pages page s.input new s.unsourced
+    → (s : SendsFor c Selser page (retyped_page pages page (remarked_of pages page new)) (λ b. new)) → IsMarkedDifference pages page s.input new s.unsourced
     → (ended ≡ code status.Done) ⊎ IsFaultOrNoMemory ended
 
--- A text edit of a page in which the marked blocks are ordinary; one in which they may hold calls, and the lines on which they are tell them; the same
--- without marks; and a text edit of blocks that may hold calls, among any that the lines of the expanded page are said to tell.
+-- A text edit of a page, in which the marked blocks are ordinary or may hold calls; the same without marks; and a text edit of blocks that may hold calls,
+-- among any that the lines of the expanded page are said to tell.
 pub record TakesTextEdits (c : Call) (ended : ℕ) : Type 0 where
-  pub ordinary : TakesEach IsOrdinaryEdit c ended
-  pub calling : TakesEach IsEditWithCalls c ended
-  pub selser : TakesDifferences IsOrdinaryDifference c ended
-  pub selser_calling : TakesDifferences IsDifferenceWithCalls c ended
+  pub edits : TakesMarked c ended
+  pub selser : TakesDifferences c ended
   pub beside : TakesBesideEdits c ended

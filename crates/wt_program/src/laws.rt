@@ -89,11 +89,10 @@ pub fn calls_take_changed_prose()
     ensures { (c : Call) (ended : ℕ) → Ends c ended → EndsAsEdit c ended → TakesChangedProse c ended }
 {}
 
-/// Every such call takes HTML that is a text edit of a page, where the marked blocks are ordinary (`IsOrdinaryEdit` of
-/// `wt_inside_laws`), where they may hold calls and the lines on which they are tell them (`IsEditWithCalls`), and where
-/// the lines of the expanded page are said to tell them: `edit` has written the page with their insides replaced by what was
-/// sent, as it is spelled, and no line; or a device failed, or memory ran out. Where HTML without marks differs by such an
-/// edit, `selser` is done; or a device failed, or memory ran out.
+/// Every such call takes HTML that is a text edit of a page, where the marked blocks are ordinary or may hold calls
+/// (`IsMarkedEdit` of `wt_inside_laws`), and where the lines of the expanded page are said to tell them: `edit` has written
+/// the page with their insides replaced by what was sent, as it is spelled, and no line; or a device failed, or memory ran
+/// out. Where HTML without marks differs by such an edit, `selser` is done; or a device failed, or memory ran out.
 #[tactic(auto, using(crate::proofs::EditCalls::calls_take_edits))]
 pub fn calls_take_text_edits()
     ensures { (c : Call) (ended : ℕ) → Ends c ended → EndsAsEdit c ended → TakesTextEdits c ended }

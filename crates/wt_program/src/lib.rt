@@ -64,14 +64,14 @@ pub fn run<S: Source, F: Folder, W: Sink, E: Sink>(
         (fetched_from F.Folder folder.old folder.new) (written_to W.Sink out.old out.new)
         (written_to E.Sink err.old err.new)) result }
 
-    // Each text edit of blocks that call nothing is taken, on any page that isn't refused, with calls or without: where a
-    // call sends HTML in which texts of any paragraphs and headings were
-    // typed anew, and these hold no group, are ordinary and told by the lines of the expanded page (`IsOrdinaryEdit` of
-    // `wt_inside_laws`), `edit` has written the page with the insides of these replaced by what was sent, as it is spelled,
-    // and no line; or a device failed, or memory ran out. So it is where the marked blocks may hold calls, if the
-    // lines on which they are tell them (`IsEditWithCalls`), or the lines of the expanded page are said to (`IsLinedCalling`):
-    // each calls nothing and is ordinary, or texts may be typed beside the calls in it (`IsBesideBlock`). Nothing but the marked blocks is another one in the new page (`IsLocalTextEdit`).
-    // Where HTML without marks differs from the page by such an edit (`IsOrdinaryDifference`, `IsDifferenceWithCalls`),
+    // Each text edit is taken, on any page that isn't refused, with calls or without: where a call sends HTML in which texts
+    // of any paragraphs and headings were typed anew (`IsMarkedEdit` of `wt_inside_laws`), `edit` has written the page with
+    // the insides of these replaced by what was sent, as it is spelled, and no line; or a device failed, or memory ran out.
+    // Each of them holds no group, is ordinary and is told by the lines of the expanded page (`IsOrdinaryOn`), or it may be
+    // edited with its calls and texts may be typed beside these (`MayHoldCalls`). So it is where the lines of the expanded
+    // page are said to tell them (`IsLinedCalling`). Nothing but the marked blocks is another one in the new page
+    // (`IsLocalTextEdit`), and what is written for each of these makes nothing but what was typed, beside its calls and the
+    // nodes that stay (`IsTypedIn`). Where HTML without marks differs from the page by such an edit (`IsMarkedDifference`),
     // `selser` is done, or a device failed, or memory ran out.
     ensures takes_text_edits { TakesTextEdits (call words.now (read_from S.Source input.old input.new)
         (fetched_from F.Folder folder.old folder.new) (written_to W.Sink out.old out.new)

@@ -25,7 +25,7 @@ use Rattle.wt_part_laws.specs.Rounded.{AllHaveItems}
 use Rattle.wt_text_edit_laws.specs.NoCalls.{AreFewer}
 use Rattle.wt_text_edit_laws.specs.ParagraphParts.{joined_parts}
 use Rattle.wt_text_edit_laws.specs.Paragraphs.{IsSeenLine}
-use Rattle.wt_text_edit_laws.specs.ReadContents.{BeginsUnclosed, BeginsUnjoined, IsFirmlyRead}
+use Rattle.wt_text_edit_laws.specs.ReadContents.{BeginsUnclosed, BeginsUnjoined, StaysUncommented, IsFirmlyRead}
 use Rattle.wt_text_edit_laws.specs.TextBetween.{StandsBehind, LineEnds}
 use Rattle.wt_text_edit_laws.specs.TextBlocks.{TextBlock, a_paragraph, a_heading, source_of, block_items, block_tree, IsFrame}
 use Rattle.wt_text_edit_laws.specs.TypedHeadings.{Sides, IsInside, IsOfLevel}
@@ -80,7 +80,7 @@ StaysAnywhere (a_heading s) q = Unit {0}
 pub record IsFirmContent (k : TextBlock) (q : List ℕ) : Type 0 where
   pub content : IsContent k q
   pub firm : (rest : List ℕ) → StandsBehind rest → BeginsUnjoined rest → page_items (q ++ rest) ≡ page_items q ++ page_items rest
-  pub uncommented : (rest : List ℕ) → StandsBehind rest → BeginsUnjoined rest → StandsBehind (q ++ rest)
+  pub uncommented : (rest : List ℕ) → StandsBehind rest → BeginsUnjoined rest → StaysUncommented k q rest
   pub stays : StaysAnywhere k q
   pub unclosed : BeginsUnclosed q
 
@@ -93,4 +93,4 @@ pub record IsNewContent (k : TextBlock) (was now : List ℕ) : Type 0 where
 
 -- Nothing begins in what is firm. What begins in another content ends in it, or is a tag that nothing in the rest of the page closes.
 abbrev pub TextEnds : TextBlock → List ℕ → List ℕ → Type 0
-TextEnds k q rest = IsFirmlyRead q ⊎ LineEnds (source_of k q) rest
+TextEnds k q rest = IsFirmlyRead k q ⊎ LineEnds (source_of k q) rest

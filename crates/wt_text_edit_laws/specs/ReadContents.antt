@@ -56,15 +56,20 @@ abbrev pub BeginsUnjoined : List ℕ → Type 0
 BeginsUnjoined [] = Unit {0}
 BeginsUnjoined (b ∷ bs) = joins_reference b ≡ false
 
+-- Before this, no line of comments begins a paragraph with this content. None begins a heading, since a `=` does.
+abbrev pub StaysUncommented : TextBlock → List ℕ → List ℕ → Type 0
+StaysUncommented a_paragraph q rest = StandsBehind (q ++ rest)
+StaysUncommented (a_heading s) q rest = Unit {0}
+
 -- It is read the same whatever stands behind it, unless that begins with a `}`, since a call may be last in it, or a reference goes on with it, since a
 -- URL may be last that ends like `&copy`; and nothing begins in it that goes on there. It begins with no `}` itself.
-pub record IsFirmlyRead (q : List ℕ) : Type 0 where
+pub record IsFirmlyRead (k : TextBlock) (q : List ℕ) : Type 0 where
   pub firm : (rest : List ℕ) → StandsBehind rest → BeginsUnclosed rest → BeginsUnjoined rest → page_items (q ++ rest) ≡ page_items q ++ page_items rest
-  pub uncommented : (rest : List ℕ) → StandsBehind rest → BeginsUnclosed rest → BeginsUnjoined rest → StandsBehind (q ++ rest)
+  pub uncommented : (rest : List ℕ) → StandsBehind rest → BeginsUnclosed rest → BeginsUnjoined rest → StaysUncommented k q rest
   pub unclosed : BeginsUnclosed q
 
 -- So of one in the place of an old one, which closes no tag that this didn't close.
 pub record IsReadAnew (k : TextBlock) (was now : List ℕ) : Type 0 where
   pub read : IsReadContent k now
-  pub firm : IsFirmlyRead now
+  pub firm : IsFirmlyRead k now
   pub closes : (name us vs : List ℕ) → to_closing name (was ++ us) ≡ None → to_closing name vs ≡ None → to_closing name (now ++ vs) ≡ None

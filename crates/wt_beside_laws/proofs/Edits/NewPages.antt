@@ -135,7 +135,7 @@ one_empty = [] ∷ []
 
 not_empty : (q : List ℕ) (ps : Pieces) → IsFlatContent (setting q) (new_signs q ps) → new_flat q ps ≡ [] → ⊥
 not_empty q ps f z =
-    let closed : empty_end (page_items (new_flat q ps)) ≡ [] = closed_is (setting q) (new_signs q ps) f in
+    let closed : empty_end (page_items (new_flat q ps)) ≡ [] = closed_is (setting q) (new_signs q ps) refl f in
     let none : page_items (new_flat q ps) ≡ [] = ap page_items z ∙ read_items [] [] reads_nothing in
     let no : one_empty ≡ [] = sym (ap empty_end none) ∙ closed in cc
 
@@ -143,7 +143,7 @@ pub new_page : (q : List ℕ) (ps : Pieces) → IsFlatPage q → IsFlatEdit q ps
 new_page q ps h e =
     let f = new_content q ps h e in
     let calm = new_calm q ps h e in
-    let means : meaning (page_items (new_flat q ps)) ≡ body_with (new_tree q ps ∷ []) = meaning_is (setting q) (new_signs q ps) f in
+    let means : meaning (page_items (new_flat q ps)) ≡ body_with (new_tree q ps ∷ []) = meaning_is (setting q) (new_signs q ps) refl f in
     record {
       utf8 = content_utf8 (setting q) (new_signs q ps) f.characters (calm_utf8 (new_signs q ps) calm);
       expanded = λ pages. content_expanded pages (setting q) (new_signs q ps) (flat_read (setting q) (new_signs q ps) f) calm;

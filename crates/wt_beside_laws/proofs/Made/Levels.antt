@@ -36,8 +36,8 @@ use Rattle.wt_beside_laws.specs.PageSigns.{ends_break, form_role, atom_role, til
 use Rattle.wt_beside_laws.specs.Stood.{things}
 use Rattle.wt_beside_laws.proofs.Each.{Each}
 use Rattle.wt_beside_laws.proofs.PageSigns.{flat_nodes}
-use Rattle.wt_beside_laws.proofs.LineHeadings.{same_items, ends_behind, UnequalLast, letter_unequal, end_unequal, begins_unequal, unequal_end}
-use Rattle.wt_beside_laws.proofs.LineKinds.{line_opens}
+use Rattle.wt_beside_laws.proofs.LineHeadings.{same_items, ends_behind, UnequalLast, letter_unequal, end_unequal, led_unequal, unequal_end}
+use Rattle.wt_beside_laws.proofs.LineKinds.{led_line}
 use Rattle.wt_beside_laws.proofs.NodeEnds.{EndInSigns, nodes_end, unequal_by}
 use Rattle.wt_beside_laws.proofs.Marks.Commented.{content_alone}
 use Rattle.wt_beside_laws.specs.NodeItems.{node_items}
@@ -250,14 +250,14 @@ all_apart s (next ∷ after) w n h = content_apart s [] next after w n h
 
 -- where each bare URL says so of its last item
 pub level_told : (s : Setting) (signs : List ContentSign) (sides : Sides) → s.within ≡ false → AreKept signs → AreCharacters signs → AreNodes signs → AllUnjoined s [] signs
-    → AreMarksLed signs → AreOnOneLine signs → AllTold signs → AreSides sides → IsOfLevel sides (page_items (spelled s signs))
+    → AreMarksLed s.place signs → AreOnOneLine signs → AllTold signs → AreSides sides → IsOfLevel sides (page_items (spelled s signs))
 level_told s signs sides w k c n u d o h a =
     let own : List Item = page_items (spelled s signs) in
     let is : own ≡ content_items s [] signs = content_alone s signs (record { within = w; kept = k; nodes = n; unjoined = u; led = d }) in
     let ss : List ℕ = map sign own in
     let begins : BeginsWithout is_equals_sign ss =
     subst (λ (xs : List Item). BeginsWithout is_equals_sign (map sign xs)) (sym (is ∙ sym (same_items s [] signs o)))
-    (begins_unequal (line_items s [] signs) (line_opens s [] signs w refl d.first c n)) in
+    (led_unequal (line_items s [] signs) (led_line s [] signs w refl c n)) in
     let last : EndsWithout is_equals_sign ss = subst UnequalLast (sym is) (all_apart s signs w n h) in
     apart_level sides own a (record {
       first = begins_other sides.lead (ss ++ sides.trail) a.lead (begins_still ss sides.trail begins);

@@ -113,7 +113,7 @@ pub lexeme_stops : (bs : List ℕ) → EndsBy is_lexeme_end bs → EndsBy stops 
 lexeme_stops [] e = tt
 lexeme_stops (b ∷ []) e = stops_at (b == 62) (b == 59) e
   where
-    stops_at : (u v : Bool) → (u || v) ≡ true → (b == 93 || (u || (v || (b == 95 || b == 39)))) ≡ true
+    stops_at : (u v : Bool) → (u || v) ≡ true → (b == 93 || (u || (v || (b == 95 || (b == 39 || b == 125))))) ≡ true
     stops_at true v i = or_true (b == 93) refl
     stops_at false true i = or_true (b == 93) refl
     stops_at false false i = cc

@@ -22,28 +22,31 @@ use Rattle.wt_beside_laws.specs.FlatBlocks.{IsSealed}
 -- ---- a byte over which no closing tag goes on
 
 abbrev pub stops : ℕ → Bool
-stops b = b == 93 || (b == 62 || (b == 59 || (b == 95 || b == 39)))
+stops b = b == 93 || (b == 62 || (b == 59 || (b == 95 || (b == 39 || b == 125))))
 
-each_stop : (P : ℕ → Type 0) → P 93 → P 62 → P 59 → P 95 → P 39 → (b : ℕ) → stops b ≡ true → P b
-each_stop P bracket greater semicolon underscore apostrophe b e = elim (either (b == 93) _ e) [
+each_stop : (P : ℕ → Type 0) → P 93 → P 62 → P 59 → P 95 → P 39 → P 125 → (b : ℕ) → stops b ≡ true → P b
+each_stop P bracket greater semicolon underscore apostrophe brace b e = elim (either (b == 93) _ e) [
   | inl i ↦ subst P (sym (eqb-true b 93 i)) bracket
   | inr f ↦ elim (either (b == 62) _ f) [
     | inl i ↦ subst P (sym (eqb-true b 62 i)) greater
     | inr g ↦ elim (either (b == 59) _ g) [
       | inl i ↦ subst P (sym (eqb-true b 59 i)) semicolon
-      | inr h ↦ elim (either (b == 95) (b == 39) h) [
+      | inr h ↦ elim (either (b == 95) _ h) [
         | inl i ↦ subst P (sym (eqb-true b 95 i)) underscore
-        | inr i ↦ subst P (sym (eqb-true b 39 i)) apostrophe
+        | inr j ↦ elim (either (b == 39) (b == 125) j) [
+          | inl i ↦ subst P (sym (eqb-true b 39 i)) apostrophe
+          | inr i ↦ subst P (sym (eqb-true b 125 i)) brace
+        ]
       ]
     ]
   ]
 ]
 
 no_name : (b : ℕ) → stops b ≡ true → is_ascii_alphanumeric b ≡ false
-no_name b e = each_stop (λ k. is_ascii_alphanumeric k ≡ false) refl refl refl refl refl b e
+no_name b e = each_stop (λ k. is_ascii_alphanumeric k ≡ false) refl refl refl refl refl refl b e
 
 no_blank : (b : ℕ) → stops b ≡ true → is_blank b ≡ false
-no_blank b e = each_stop (λ k. is_blank k ≡ false) refl refl refl refl refl b e
+no_blank b e = each_stop (λ k. is_blank k ≡ false) refl refl refl refl refl refl b e
 
 -- a run ends before it
 run_before : (start k : ℕ) (p : ℕ → Bool) (bs : List ℕ) → ((b : ℕ) → stops b ≡ true → p b ≡ false) → stops (get_or bs k 0) ≡ true → start ≤ k

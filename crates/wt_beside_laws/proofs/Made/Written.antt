@@ -4,6 +4,7 @@ use Rattle.std.specs.Prelude.{if◌then◌else◌}
 use Rattle.std.proofs.lemmas.List.Elements.{All-nil, All-cons, All-head, All-tail}
 use Rattle.std.specs.Str.{IsUtf8}
 use Rattle.wt_span.specs.Items.{Item, char}
+use Rattle.wt_tree.specs.declared.edit_shape.Place.{Place}
 use Rattle.wt_tree.specs.declared.edit_shape.Place.TheVariants as place
 use Rattle.wt_guards.specs.Content.{ContentSign, letter, thing}
 use Rattle.wt_guards.specs.Guards.{Setting, spelled}
@@ -11,10 +12,10 @@ use Rattle.wt_expand.specs.PageItems.{page_items}
 use Rattle.wt_lines.specs.declared.kind.LineKind.TheVariants as line
 use Rattle.wt_lines.specs.Kinds.{line_kind}
 use Rattle.wt_lines.specs.Lines.{lines, content}
-use Rattle.wt_text_edit_laws.specs.ReadContents.{BeginsUnjoined}
+use Rattle.wt_text_edit_laws.specs.ReadContents.{BeginsUnjoined, StaysUncommented}
 use Rattle.wt_text_edit_laws.specs.TextBetween.{StandsBehind}
 use Rattle.wt_text_edit_laws.specs.TextBlocks.{TextBlock, a_paragraph, a_heading, source_of, block_items}
-use Rattle.wt_text_edit_laws.proofs.Between.Fronts.{behind_reads}
+use Rattle.wt_text_edit_laws.proofs.Between.Fronts.{ReadsAfter, page_read, behind_reads}
 use Rattle.wt_text_edit_laws.proofs.Blocks.BlockReading.{IsBeforeAny, HasFrame, any_front}
 use Rattle.wt_text_edit_laws.proofs.Prose.InFront.{Reads, reads_nothing, read_break, read_items}
 use Rattle.wt_text_edit_laws.proofs.Prose.Uncommented.{BeginsUncommented}
@@ -22,6 +23,7 @@ use Rattle.wt_beside_laws.specs.Calm.{AreUtf8Nodes}
 use Rattle.wt_beside_laws.specs.Flat.{IsReadIn}
 use Rattle.wt_beside_laws.specs.FlatBlocks.{lines_in}
 use Rattle.wt_beside_laws.specs.InHeadings.{AreOnOneLine}
+use Rattle.wt_beside_laws.specs.Led.{BeginsUnled}
 use Rattle.wt_beside_laws.specs.Lines.{AreLinesOfText, AreCharacters, AreUnbroken, line_items, later_lines, content_lines}
 use Rattle.wt_beside_laws.proofs.CalmContents.{guard_utf8, reference_calm}
 use Rattle.wt_beside_laws.proofs.FlatAgain.{EachSource, HoldsOfPut}
@@ -29,14 +31,14 @@ use Rattle.wt_beside_laws.proofs.LineHeadings.{same_items}
 use Rattle.wt_beside_laws.proofs.LineItems.{content_lines_are}
 use Rattle.wt_beside_laws.proofs.LineKinds.{lines_are_text, are_lines_of_text}
 use Rattle.wt_beside_laws.proofs.FlatLines.{lines_unled}
-use Rattle.wt_beside_laws.proofs.Marks.Commented.{content_alone, content_reads}
+use Rattle.wt_beside_laws.proofs.Marks.Commented.{content_in, content_alone, content_reads}
 use Rattle.wt_page.specs.Rows.{marks_len}
 
 -- ---- a content of a block of this kind
 
--- in a heading it is on one line
+-- it is spelled for such a block, and in a heading it is on one line
 abbrev pub FitsIn : TextBlock → Setting → List ContentSign → Type 0
-FitsIn a_paragraph s signs = Unit {0}
+FitsIn a_paragraph s signs = s.place ≡ place.Paragraph
 FitsIn (a_heading h) s signs = (s.place ≡ place.Heading) × AreOnOneLine signs
 
 -- ---- its lines
@@ -56,46 +58,42 @@ lines_by (a_heading h) s signs kept unbroken fits =
 
 -- ---- how it is read
 
-content_front : (s : Setting) (signs : List ContentSign) → IsReadIn s signs → (rest : List ℕ) (xs : List Item) → BeginsUnjoined rest → Reads rest xs
-    → Reads (spelled s signs ++ rest) (page_items (spelled s signs) ++ xs)
-content_front s signs k rest xs j r =
-    subst (λ (ys : List Item). Reads (spelled s signs ++ rest) (ys ++ xs)) (sym (content_alone s signs k)) (content_reads s signs k rest xs j r)
+content_line : (s : Setting) (signs : List ContentSign) → IsReadIn s signs → (rest : List ℕ) (xs : List Item) → BeginsUnjoined rest → Reads rest xs
+    → ReadsAfter false (spelled s signs ++ rest) (page_items (spelled s signs) ++ xs)
+content_line s signs k rest xs j r =
+    subst (λ (ys : List Item). ReadsAfter false (spelled s signs ++ rest) (ys ++ xs)) (sym (content_alone s signs k)) (content_in s signs k rest xs j r)
 
-pub before_any : (s : Setting) (signs : List ContentSign) → IsReadIn s signs → IsBeforeAny (spelled s signs)
-before_any s signs k rest xs j r = content_front s signs k rest xs j r
+content_front : (s : Setting) (signs : List ContentSign) → s.place ≡ place.Paragraph → IsReadIn s signs → (rest : List ℕ) (xs : List Item) → BeginsUnjoined rest
+    → Reads rest xs → Reads (spelled s signs ++ rest) (page_items (spelled s signs) ++ xs)
+content_front s signs e k rest xs j r =
+    subst (λ (ys : List Item). Reads (spelled s signs ++ rest) (ys ++ xs)) (sym (content_alone s signs k)) (content_reads s signs e k rest xs j r)
+
+pub before_any : (k : TextBlock) (s : Setting) (signs : List ContentSign) → FitsIn k s signs → IsReadIn s signs → IsBeforeAny k (spelled s signs)
+before_any a_paragraph s signs f k rest xs j r = content_front s signs f k rest xs j r
+before_any (a_heading h) s signs f k rest xs j r = content_line s signs k rest xs j r
 
 stands : (bs : List ℕ) → BeginsUncommented bs → StandsBehind bs
 stands bs h = record { uncommented = h.is }
 
-pub uncommented : (s : Setting) (signs : List ContentSign) (rest : List ℕ) → IsReadIn s signs → StandsBehind rest → BeginsUnjoined rest
-    → StandsBehind (spelled s signs ++ rest)
-uncommented s signs rest k b j =
-    let r : Reads (spelled s signs ++ rest) (page_items (spelled s signs) ++ page_items rest) = content_front s signs k rest (page_items rest) j (behind_reads rest b) in
+pub uncommented : (k : TextBlock) (s : Setting) (signs : List ContentSign) (rest : List ℕ) → FitsIn k s signs → IsReadIn s signs → StandsBehind rest → BeginsUnjoined rest
+    → StaysUncommented k (spelled s signs) rest
+uncommented a_paragraph s signs rest f k b j =
+    let r : Reads (spelled s signs ++ rest) (page_items (spelled s signs) ++ page_items rest) = content_front s signs f k rest (page_items rest) j (behind_reads rest b) in
     stands (spelled s signs ++ rest) r.begins
+uncommented (a_heading h) s signs rest f k b j = tt
 
 pub firm : (s : Setting) (signs : List ContentSign) (rest : List ℕ) → IsReadIn s signs → StandsBehind rest → BeginsUnjoined rest
     → page_items (spelled s signs ++ rest) ≡ page_items (spelled s signs) ++ page_items rest
 firm s signs rest k b j =
-    read_items (spelled s signs ++ rest) (page_items (spelled s signs) ++ page_items rest) (content_front s signs k rest (page_items rest) j (behind_reads rest b))
-
-pub alone : (s : Setting) (signs : List ContentSign) → IsReadIn s signs → StandsBehind (spelled s signs)
-alone s signs k =
-    let r : Reads (spelled s signs ++ []) (page_items (spelled s signs) ++ []) = content_front s signs k [] [] tt reads_nothing in
-    subst StandsBehind (append-nil (spelled s signs)) (stands (spelled s signs ++ []) r.begins)
-
-pub before_break : (s : Setting) (signs : List ContentSign) → IsReadIn s signs → StandsBehind (spelled s signs ++ 10 ∷ [])
-before_break s signs k =
-    let r : Reads (spelled s signs ++ 10 ∷ []) (page_items (spelled s signs) ++ char None 10 ∷ []) =
-    content_front s signs k (10 ∷ []) (char None 10 ∷ []) refl (read_break [] [] reads_nothing) in
-    stands (spelled s signs ++ 10 ∷ []) r.begins
+    page_read (spelled s signs ++ rest) (page_items (spelled s signs) ++ page_items rest) (content_line s signs k rest (page_items rest) j (behind_reads rest b))
 
 -- in its block
-pub ended_so : (k : TextBlock) (q : List ℕ) → HasFrame k → IsBeforeAny q → page_items (source_of k q ++ 10 ∷ []) ≡ block_items k q ++ char None 10 ∷ []
+pub ended_so : (k : TextBlock) (q : List ℕ) → HasFrame k → IsBeforeAny k q → page_items (source_of k q ++ 10 ∷ []) ≡ block_items k q ++ char None 10 ∷ []
 ended_so k q f b =
     read_items (source_of k q ++ 10 ∷ []) (block_items k q ++ char None 10 ∷ [])
     (any_front k q (10 ∷ []) (char None 10 ∷ []) f b refl (read_break [] [] reads_nothing))
 
-pub unended_so : (k : TextBlock) (q : List ℕ) → HasFrame k → IsBeforeAny q → page_items (source_of k q) ≡ block_items k q
+pub unended_so : (k : TextBlock) (q : List ℕ) → HasFrame k → IsBeforeAny k q → page_items (source_of k q) ≡ block_items k q
 unended_so k q f b =
     ap page_items (sym (append-nil (source_of k q)))
     ∙ read_items (source_of k q ++ []) (block_items k q ++ []) (any_front k q [] [] f b tt reads_nothing)
@@ -108,10 +106,11 @@ pub texts_by : (n : ℕ) (s : Setting) (signs : List ContentSign) → IsReadIn s
 texts_by n s signs k typed unbroken =
     subst (All (λ l. line_kind n l ≡ line.Text)) (sym (content_lines_are s signs k unbroken)) (lines_are_text n s signs k.within typed k.nodes)
 
-pub unled_by : (s : Setting) (signs : List ContentSign) → IsReadIn s signs → AreCharacters signs → AreUnbroken signs → marks_len (page_items (spelled s signs)) ≡ 0
-unled_by s signs k typed unbroken =
+pub unled_by : (s : Setting) (signs : List ContentSign) → s.place ≡ place.Paragraph → IsReadIn s signs → AreCharacters signs → AreUnbroken signs
+    → marks_len (page_items (spelled s signs)) ≡ 0
+unled_by s signs e k typed unbroken =
     lines_unled 0 (page_items (spelled s signs))
-    (subst (AreLinesOfText 0) (sym (content_lines_are s signs k unbroken)) (are_lines_of_text 0 s signs k.within k.led.first typed k.nodes))
+    (subst (AreLinesOfText 0) (sym (content_lines_are s signs k unbroken)) (are_lines_of_text 0 s signs k.within (subst (λ (p : Place). BeginsUnled p signs) e k.led.first) typed k.nodes))
 
 -- ---- what holds of its sources
 

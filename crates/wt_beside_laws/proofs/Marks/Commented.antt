@@ -6,12 +6,14 @@ use Rattle.std.proofs.lemmas.Str.{encode_ascii}
 use Rattle.wt_span.specs.declared.form.ItemForm.TheVariants as form
 use Rattle.wt_span.specs.Bytes.{is_blank}
 use Rattle.wt_span.specs.Items.{Item}
+use Rattle.wt_tree.specs.declared.edit_shape.Place.{Place}
+use Rattle.wt_tree.specs.declared.edit_shape.Place.TheVariants as place
 use Rattle.wt_guards.specs.declared.role.Role.{Role}
 use Rattle.wt_guards.specs.declared.role.Role.TheVariants.{Link, External, Bare, Switch, Toggle, Mark, Group, Function, Node}
 use Rattle.wt_guards.specs.declared.side.Side.TheVariants as side
 use Rattle.wt_guards.specs.Content.{ContentSign, Thing, letter, thing, nearest, ends_line, side_of, is_function, is_group}
 use Rattle.wt_guards.specs.Letters.{is_escaped, written_by}
-use Rattle.wt_guards.specs.Guards.{Setting, nowiki, nowiki_if, has_brace_last, is_guarded, is_between_guard, is_parted, is_adjacent, is_start_guard, is_line_start, is_line_begun, is_empty_line, is_new_at_start, is_end_guard, is_blank_guard, is_blank_last, is_past_node, is_nearest, is_group_or_bare, reached, is_new_text_next, is_mark as is_mark_role, spelled_from, spelled}
+use Rattle.wt_guards.specs.Guards.{Setting, nowiki, nowiki_if, has_brace_last, is_guarded, is_between_guard, is_parted, is_adjacent, is_start_guard, is_line_start, is_line_begun, is_empty_line, is_line_mark_next, is_new_at_start, is_end_guard, is_blank_guard, is_blank_last, is_past_node, is_nearest, is_group_or_bare, reached, is_new_text_next, is_mark as is_mark_role, spelled_from, spelled}
 use Rattle.wt_guards.specs.Table.{hazard}
 use Rattle.wt_guards.proofs.Escapes.{escapable}
 use Rattle.wt_expand.specs.PageItems.{page_items}
@@ -19,15 +21,15 @@ use Rattle.wt_typed_blocks.proofs.Lines.{unguarded_begins, end_guarded}
 use Rattle.wt_text_edit_laws.specs.LonePages.{page_chars}
 use Rattle.wt_text_edit_laws.specs.ReadContents.{BeginsUnjoined}
 use Rattle.wt_text_edit_laws.specs.TextBetween.{StandsBehind}
-use Rattle.wt_text_edit_laws.proofs.Between.Fronts.{ReadsAfter, behind_reads, reads_after, reads_either}
-use Rattle.wt_text_edit_laws.proofs.Prose.InFront.{Reads, reads_nothing, read_items}
+use Rattle.wt_text_edit_laws.proofs.Between.Fronts.{ReadsAfter, page_read, behind_reads, reads_after, reads_either}
+use Rattle.wt_text_edit_laws.proofs.Prose.InFront.{Reads, reads_nothing}
 use Rattle.wt_text_edit_laws.proofs.Prose.Uncommented.{BeginsUncommented}
 use Rattle.wt_beside_laws.specs.Commented.{IsCommentSource, LexemesEnd, IsReadInLine, IsHeld}
 use Rattle.wt_beside_laws.specs.Content.{AreKept, guard_items, letter_items, content_items}
 use Rattle.wt_beside_laws.specs.Cuts.{own_glyphs}
 use Rattle.wt_beside_laws.specs.Flat.{IsReadIn}
 use Rattle.wt_beside_laws.specs.Kept.{IsKept}
-use Rattle.wt_beside_laws.specs.Led.{BeginsUnled, AreLed}
+use Rattle.wt_beside_laws.specs.Led.{MayBegin, BeginsUnled, AreLed}
 use Rattle.wt_beside_laws.specs.NodeItems.{node_items}
 use Rattle.wt_beside_laws.specs.Nodes.{IsNode, AreNodes}
 use Rattle.wt_beside_laws.specs.PageSigns.{ends_break, HasNoBreak}
@@ -265,7 +267,7 @@ held_shown t more v e f n (inr (inl c)) = let no : true ≡ false = sym (comment
 held_shown t more v e f n (inr (inr (inr k))) = read_shown t.source k more
 held_shown t more v e f n (inr (inr (inl c))) = let no : true ≡ false = sym (line_mark t c n) ∙ e ∙ f in cc
 
-content_shown : (s : Setting) (signs : List ContentSign) → s.within ≡ false → BeginsUnled signs → AreKept signs → AreNodes signs → (rest : List ℕ)
+content_shown : (s : Setting) (signs : List ContentSign) → s.within ≡ false → BeginsUnled place.Paragraph signs → AreKept signs → AreNodes signs → (rest : List ℕ)
     → IsShownFirst (spelled s signs ++ rest)
 content_shown s [] w b h n rest = subst (λ (u : Bool). IsShownFirst (nowiki_if u ++ rest)) (sym (end_guarded s [] w refl)) (nowiki_shown rest)
 content_shown s (letter c ∷ after) w b h n rest =
@@ -285,23 +287,77 @@ content_shown s (thing t ∷ after) w b h n rest =
     unmarked g true e = let no : true ≡ false = sym (new_guarded s [] t after w refl (b e)) ∙ g in cc
     unmarked g false e = refl
 
--- So a content of a paragraph or a heading is read before whatever is read behind it, if no reference goes on with that.
-pub content_reads : (s : Setting) (signs : List ContentSign) → IsReadIn s signs → (rest : List ℕ) (xs : List Item) → BeginsUnjoined rest → Reads rest xs
-    → Reads (spelled s signs ++ rest) (content_items s [] signs ++ xs)
-content_reads s signs k rest xs b r =
+-- ---- what is first is no line of comments
+
+new_unended : (r : Role) → (is_mark_role r ≡ true → is_new_at_start r ≡ true) → ends_line r ≡ false
+new_unended Link h = refl
+new_unended External h = refl
+new_unended (Bare ends) h = refl
+new_unended Switch h = refl
+new_unended Toggle h = refl
+new_unended (Mark true began) h = let no : false ≡ true = h refl in cc
+new_unended (Mark false began) h = refl
+new_unended (Group g) h = refl
+new_unended Function h = refl
+new_unended Node h = refl
+
+may_unended : (p : Place) (r : Role) → MayBegin p r → ends_line r ≡ false
+may_unended place.Paragraph r h = new_unended r h
+may_unended place.Heading r h = h
+may_unended place.Item r h = new_unended r h
+may_unended place.Term r h = new_unended r h
+may_unended place.Cell r h = new_unended r h
+may_unended place.Header r h = new_unended r h
+
+no_line_next : (p : Place) (signs : List ContentSign) → BeginsUnled p signs → is_line_mark_next (nearest signs) ≡ false
+no_line_next p [] h = refl
+no_line_next p (letter c ∷ after) h = refl
+no_line_next p (thing t ∷ after) h = may_unended p t.role h
+
+put_seen : (u : Bool) (own more rest : List ℕ) → u ≡ true → IsSeen ((nowiki_if u ++ (own ++ more)) ++ rest)
+put_seen u own more rest g =
+    subst IsSeen (sym (in_order (nowiki_if u) own more rest))
+    (subst (λ (v : Bool). IsSeen (nowiki_if v ++ (own ++ (more ++ rest)))) (sym g)
+    (shown_seen (nowiki ++ (own ++ (more ++ rest))) (nowiki_shown (own ++ (more ++ rest)))))
+
+guarded_seen : (s : Setting) (signs : List ContentSign) (rest : List ℕ) → is_guarded s [] signs ≡ true → IsSeen (spelled s signs ++ rest)
+guarded_seen s [] rest g = subst (λ (u : Bool). IsSeen (nowiki_if u ++ rest)) (sym g) (shown_seen (nowiki ++ rest) (nowiki_shown rest))
+guarded_seen s (letter c ∷ after) rest g =
+    put_seen (is_guarded s [] (letter c ∷ after)) (written_by (is_escaped s.within s.place [] c after) c) (further s c [] after) rest g
+guarded_seen s (thing t ∷ after) rest g = put_seen (is_guarded s [] (thing t ∷ after)) t.source (spelled_from s (thing t ∷ []) after) rest g
+
+-- its first line isn't one of comments alone: an empty one begins with what is put
+content_seen : (s : Setting) (signs : List ContentSign) → s.within ≡ false → BeginsUnled s.place signs → AreKept signs → AreNodes signs → (rest : List ℕ)
+    → IsSeen (spelled s signs ++ rest)
+content_seen s signs w b h n rest = by (is_empty_line signs) refl
+  where
+    by : (v : Bool) → is_empty_line signs ≡ v → IsSeen (spelled s signs ++ rest)
+    by true e = guarded_seen s signs rest (empty_guarded s [] signs w refl e (no_line_next s.place signs b))
+    by false e = seen_from s [] signs w refl e h n rest
+
+-- So a content of a paragraph or a heading is read before whatever is read behind it, if no reference goes on with that, where no line begins before it.
+pub content_in : (s : Setting) (signs : List ContentSign) → IsReadIn s signs → (rest : List ℕ) (xs : List Item) → BeginsUnjoined rest → Reads rest xs
+    → InLine (spelled s signs ++ rest) (content_items s [] signs ++ xs)
+content_in s signs k rest xs j r =
     let bs : List ℕ = spelled s signs ++ rest in
-    let f : IsShownFirst bs = content_shown s signs k.within k.led.first k.kept k.nodes rest in
-    reads_either bs (content_items s [] signs ++ xs) (shown_begins bs f)
-    (seen_back bs (content_items s [] signs ++ xs) (shown_seen bs f)
-    (content_level s [] signs true k.within refl k.kept k.nodes k.unjoined k.led.others rest xs b r))
+    seen_back bs (content_items s [] signs ++ xs) (content_seen s signs k.within k.led.first k.kept k.nodes rest)
+    (content_level s [] signs true k.within refl k.kept k.nodes k.unjoined k.led.others rest xs j r)
+
+-- and that of a paragraph where one does, too
+pub content_reads : (s : Setting) (signs : List ContentSign) → s.place ≡ place.Paragraph → IsReadIn s signs → (rest : List ℕ) (xs : List Item) → BeginsUnjoined rest
+    → Reads rest xs → Reads (spelled s signs ++ rest) (content_items s [] signs ++ xs)
+content_reads s signs e k rest xs j r =
+    let bs : List ℕ = spelled s signs ++ rest in
+    let f : IsShownFirst bs = content_shown s signs k.within (subst (λ (p : Place). BeginsUnled p signs) e k.led.first) k.kept k.nodes rest in
+    reads_either bs (content_items s [] signs ++ xs) (shown_begins bs f) (content_in s signs k rest xs j r)
 
 pub content_alone : (s : Setting) (signs : List ContentSign) → IsReadIn s signs → page_items (spelled s signs) ≡ content_items s [] signs
 content_alone s signs k =
     ap page_items (sym (append-nil (spelled s signs)))
-    ∙ read_items (spelled s signs ++ []) (content_items s [] signs ++ []) (content_reads s signs k [] [] tt reads_nothing)
+    ∙ page_read (spelled s signs ++ []) (content_items s [] signs ++ []) (content_in s signs k [] [] tt reads_nothing)
     ∙ append-nil (content_items s [] signs)
 
 pub content_before : (s : Setting) (signs : List ContentSign) (rest : List ℕ) → IsReadIn s signs → StandsBehind rest → BeginsUnjoined rest
     → page_items (spelled s signs ++ rest) ≡ content_items s [] signs ++ page_items rest
 content_before s signs rest k b j =
-    read_items (spelled s signs ++ rest) (content_items s [] signs ++ page_items rest) (content_reads s signs k rest (page_items rest) j (behind_reads rest b))
+    page_read (spelled s signs ++ rest) (content_items s [] signs ++ page_items rest) (content_in s signs k rest (page_items rest) j (behind_reads rest b))

@@ -239,17 +239,24 @@ page_led q = subst (LedItems false) (first_from false q ∙ sym (first_items q))
 
 -- ---- its lines
 
-abbrev pub EachLed : List (List Item) → Type 0
-EachLed [] = Unit {0}
-EachLed (l ∷ ls) = LedItems true l × EachLed ls
+-- the first of them, where a line begins before it or not, and the others
+abbrev pub EachLed : Bool → List (List Item) → Type 0
+EachLed s [] = Unit {0}
+EachLed s (l ∷ ls) = LedItems s l × EachLed true ls
 
-lines_led : (ls : List (List Item)) (xs : List Item) (s : Bool) → AreLines ls xs → LedItems s xs → EachLed ls
+each_more : (s : Bool) (ls : List (List Item)) → EachLed s ls → EachLed true ls
+each_more s [] h = tt
+each_more s (l ∷ ls) h = (led_more l s true (λ e. refl) h.0, h.1)
+
+lines_led : (ls : List (List Item)) (xs : List Item) (s : Bool) → AreLines ls xs → LedItems s xs → EachLed s ls
 lines_led [] xs s a h = absurd a
-lines_led (l ∷ []) xs s a h = (led_more l s true (λ e. refl) (subst (LedItems s) a.1 h), tt)
+lines_led (l ∷ []) xs s a h = (subst (LedItems s) a.1 h, tt)
 lines_led (l ∷ m ∷ ls) xs s a h =
     let c = led_cut l (a.1 ∷ a.2) s (subst (LedItems s) a.4 h) in
-    (led_more l s true (λ e. refl) c.0, lines_led (m ∷ ls) a.2 (settled (source a.1) (settled (sources l) s)) a.5 c.1.1)
+    let v : Bool = settled (source a.1) (settled (sources l) s) in
+    (c.0, each_more v (m ∷ ls) (lines_led (m ∷ ls) a.2 v a.5 c.1.1))
 
-pub content_led : (k : TextBlock) (q : List ℕ) → EachLed (lines_in k q)
+-- no line of comments begins a content, or it would stand before the block
+pub content_led : (k : TextBlock) (q : List ℕ) → EachLed false (lines_in k q)
 content_led a_paragraph q = lines_led (lines (page_items q)) (page_items q) false (lines_are (page_items q)) (page_led q)
-content_led (a_heading s) q = (led_more (page_items q) false true (λ e. refl) (page_led q), tt)
+content_led (a_heading s) q = (page_led q, tt)

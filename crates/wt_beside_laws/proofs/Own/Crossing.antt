@@ -82,7 +82,7 @@ TagsStop [] = Unit {0}
 TagsStop (b ∷ bs) = ((b == 60) ≡ true → list_any stops bs ≡ true) × TagsStop bs
 
 -- behind each `<` before a letter comes a `<`, a `>` or a line break
-abbrev AfterTag : List ℕ → Type 0
+abbrev pub AfterTag : List ℕ → Type 0
 AfterTag [] = Unit {0}
 AfterTag (c ∷ cs) = is_ascii_alphabetic c ≡ true → list_any is_stop (c ∷ cs) ≡ true
 

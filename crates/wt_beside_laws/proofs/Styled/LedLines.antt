@@ -205,16 +205,16 @@ both_cases : (v : Bool) (a s began : Bool) (w : Shape) (xs : List Item) (rest : 
 both_cases true a s began w xs rest e t n led f h = line_tile a s began w xs rest (t refl) e led f h
 both_cases false a s began w xs rest e t n led f h = segments_then (tile_segments context_parts in_line (w, take (size w) xs)) rest began (n refl) h
 
-tiles_led : (ws : List Shape) (a s began : Bool) (at : ℕ) (xs : List Item) → AreTiles in_line a ws (map glyph_of xs) → AllByRecursion (IsPlaced in_line) (tile_parts ws xs)
+tiles_led : (ws : List Shape) (a s v began : Bool) (at : ℕ) (xs : List Item) → AreTiles in_line a ws (map glyph_of xs) → AllByRecursion (IsPlaced in_line) (tile_parts ws xs)
     → AreFlatTiles (tile_parts ws xs) → AreNodes (signs_of_tiles began at (tile_parts ws xs)) → AreKept (signs_of_tiles began at (tile_parts ws xs)) → HasNoBreak xs
-    → LedItems s xs → (s ≡ true → began ≡ true) → SegmentsLed began (flat_map (tile_segments context_parts in_line) (tile_parts ws xs))
-tiles_led [] a s began at xs t p f n k b led g = tt
-tiles_led (w ∷ ws) a s began at xs t p f n k b led g =
+    → LedItems s xs → (s ≡ true → v ≡ true) → SegmentsLed v (flat_map (tile_segments context_parts in_line) (tile_parts ws xs))
+tiles_led [] a s v began at xs t p f n k b led g = tt
+tiles_led (w ∷ ws) a s v began at xs t p f n k b led g =
     let m : ℕ = size w in
     let ys : List Item = take m xs in
     let zs : List Item = drop m xs in
-    let v : Bool = ends_break (sources ys) in
-    let more : List ContentSign = signs_of_tiles v (at + length (sources ys)) (tile_parts ws zs) in
+    let u : Bool = ends_break (sources ys) in
+    let more : List ContentSign = signs_of_tiles u (at + length (sources ys)) (tile_parts ws zs) in
     let nodes = nodes_parts (tile_signs w.kind began at ys) more n in
     let kept = kept_front (tile_signs w.kind began at ys) more k in
     let some : 0 < size w = t.0 in
@@ -223,12 +223,12 @@ tiles_led (w ∷ ws) a s began at xs t p f n k b led g =
     let goes : Goes ys = tile_goes w.kind a began at w xs f.0 t.2 kept.0 (none_take m xs b) there in
     let all : LedItems s (ys ++ zs) = subst (LedItems s) (sym (take-append-drop m xs)) led in
     let told = tile_told w.kind a began at w xs refl f.0 t.2 t.0 p.0 nodes.0 in
-    let same : settled (sources ys) s ≡ v = settled_is (sources ys) s goes.0 in
-    let rest : SegmentsLed v (flat_map (tile_segments context_parts in_line) (tile_parts ws zs)) =
-    tiles_led ws (is_word_at (map glyph_of xs) (m - 1)) (settled (sources ys) s) v (at + length (sources ys)) zs
+    let same : settled (sources ys) s ≡ u = settled_is (sources ys) s goes.0 in
+    let rest : SegmentsLed u (flat_map (tile_segments context_parts in_line) (tile_parts ws zs)) =
+    tiles_led ws (is_word_at (map glyph_of xs) (m - 1)) (settled (sources ys) s) u u (at + length (sources ys)) zs
     (subst (λ gs. AreTiles in_line (is_word_at (map glyph_of xs) (m - 1)) ws gs) (sym (map_drop m xs)) t.4) p.1 f.1 nodes.1 kept.1 (none_drop m xs b)
     (led_cut ys zs s all).1 (λ e. sym same ∙ e) in
-    both_cases v a s began w xs (flat_map (tile_segments context_parts in_line) (tile_parts ws zs)) refl
+    both_cases u a s v w xs (flat_map (tile_segments context_parts in_line) (tile_parts ws zs)) refl
     (λ e. ended_tile w.kind a began at w xs f.0 t.2 kept.0 (none_take m xs b) there e)
     (λ e. segments_no w ys
     (have_no at (tile_parts_of (tile_tree context_parts in_line w.kind w ys) ys) (things (tile_signs w.kind began at ys)) told.have (unended_things w.kind began at ys e)))
@@ -236,56 +236,56 @@ tiles_led (w ∷ ws) a s began at xs t p f n k b led g =
 
 -- ---- a line
 
-line_segments : (at : ℕ) (xs : List Item) → HasNoBreak xs → AreFlatTiles (tiles in_line xs) → AreNodes (line_signs at xs) → AreKept (line_signs at xs) → LedItems true xs
-    → SegmentsLed true (segments context_parts in_line xs)
+line_segments : (s : Bool) (at : ℕ) (xs : List Item) → HasNoBreak xs → AreFlatTiles (tiles in_line xs) → AreNodes (line_signs at xs) → AreKept (line_signs at xs)
+    → LedItems s xs → SegmentsLed s (segments context_parts in_line xs)
 unfolding segments tiles
-line_segments at xs b f n k led =
-    tiles_led (shapes in_line (map glyph_of xs)) false true true at xs (shapes_are in_line (map glyph_of xs)) (tiles_placed in_line xs) f n k b led (λ e. refl)
+line_segments s at xs b f n k led =
+    tiles_led (shapes in_line (map glyph_of xs)) false s s true at xs (shapes_are in_line (map glyph_of xs)) (tiles_placed in_line xs) f n k b led (λ e. e)
 
-line_led : (at : ℕ) (xs : List Item) → HasNoBreak xs → AreFlatTiles (tiles in_line xs) → AreNodes (line_signs at xs) → AreKept (line_signs at xs) → LedItems true xs
-    → AllLed true (line_parts xs)
-line_led at xs b f n k led =
+line_led : (s : Bool) (at : ℕ) (xs : List Item) → HasNoBreak xs → AreFlatTiles (tiles in_line xs) → AreNodes (line_signs at xs) → AreKept (line_signs at xs)
+    → LedItems s xs → AllLed s (line_parts xs)
+line_led s at xs b f n k led =
     let us : List Segment = segments context_parts in_line xs in
-    let own : SegmentsLed true us = line_segments at xs b f n k led in
-    let all : AllLed true (segment_parts (between 0 (length us) us)) = subst (λ (vs : List Segment). AllLed true (segment_parts vs)) (sym (between_all us)) (parts_led true us own) in
-    subst (AllLed true) (sym (line_is xs))
-    (styled_led 0 (length us) (forest_of (style_tree_of (chunks us))) us true true (styles_behind us) (line_fill us) own all)
+    let own : SegmentsLed s us = line_segments s at xs b f n k led in
+    let all : AllLed s (segment_parts (between 0 (length us) us)) = subst (λ (vs : List Segment). AllLed s (segment_parts vs)) (sym (between_all us)) (parts_led s us own) in
+    subst (AllLed s) (sym (line_is xs))
+    (styled_led 0 (length us) (forest_of (style_tree_of (chunks us))) us s s (styles_behind us) (line_fill us) own all)
 
-pub lines_led : (at : ℕ) (ls : List (List Item)) → AreFlatLines ls → AreNodes (signs_of_lines at ls) → AreKept (signs_of_lines at ls) → EachLed ls
-    → AllLed true (joined_parts ls)
-lines_led at [] f n k led = tt
-lines_led at (xs ∷ []) f n k led = subst (AllLed true) (sym (append-nil (line_parts xs))) (line_led at xs f.0 f.1 n k led.0)
-lines_led at (xs ∷ ys ∷ ls) f n k led =
+pub lines_led : (s : Bool) (at : ℕ) (ls : List (List Item)) → AreFlatLines ls → AreNodes (signs_of_lines at ls) → AreKept (signs_of_lines at ls) → EachLed s ls
+    → AllLed s (joined_parts ls)
+lines_led s at [] f n k led = tt
+lines_led s at (xs ∷ []) f n k led = subst (AllLed s) (sym (append-nil (line_parts xs))) (line_led s at xs f.0 f.1 n k led.0)
+lines_led s at (xs ∷ ys ∷ ls) f n k led =
     let m : ℕ = length (sources xs) in
     let later : List ContentSign = letter 10 ∷ signs_of_lines (at + m + 1) (ys ∷ ls) in
     let nodes = nodes_parts (line_signs at xs) later n in
     let kept = kept_front (line_signs at xs) later k in
-    led_lines true (line_parts xs) (joined_parts (ys ∷ ls)) (line_led at xs f.0 f.1 nodes.0 kept.0 led.0)
-    (lines_led (at + m + 1) (ys ∷ ls) f.2 nodes.1 kept.1 led.1)
+    led_lines s (line_parts xs) (joined_parts (ys ∷ ls)) (line_led s at xs f.0 f.1 nodes.0 kept.0 led.0)
+    (lines_led true (at + m + 1) (ys ∷ ls) f.2 nodes.1 kept.1 led.1)
 
 -- ---- the block
 
-block_led : (k : Block) (n : ℕ) (before opening closing : List Item) (ps : List Part) → 0 < n → AllLed true ps → HasNoGroup (standing n before (block_by k opening ps closing))
-    → (let block : Tree = standing n before (block_by k opening ps closing) in AreOwnLed block (0 + length (label block).opening) true (children_of block))
+block_led : (k : Block) (n : ℕ) (before opening closing : List Item) (ps : List Part) → 0 < n → AllLed false ps → HasNoGroup (standing n before (block_by k opening ps closing))
+    → (let block : Tree = standing n before (block_by k opening ps closing) in AreOwnLed block (0 + length (label block).opening) false (children_of block))
 block_led k n before opening closing ps some h g =
     let block : Tree = standing n before (block_by k opening ps closing) in
     let at : ℕ = 0 + length (label block).opening in
     let e : children_of block ≡ nodes_of (n + 1) (before ++ opening) (forest (children ps)) = its_children k n before opening closing ps in
     let found : Every (Finds block) (found_in at at (children_of block)) =
     inside (Finds block) block (no_leaf k n before opening closing ps) (all_found block n some (block_counts n before (block_by k opening ps closing) some g)) in
-    subst (λ (ts : Trees). AreOwnLed block at true ts) (sym e)
-    (children_led ps true block at at (n + 1) (before ++ opening) (omega arith) h (subst (λ (ts : Trees). Every (Finds block) (found_in at at ts)) e found))
+    subst (λ (ts : Trees). AreOwnLed block at false ts) (sym e)
+    (children_led ps false block at at (n + 1) (before ++ opening) (omega arith) h (subst (λ (ts : Trees). Every (Finds block) (found_in at at ts)) e found))
 
-pub own_led : (k : TextBlock) (q : List ℕ) (block : Tree) → IsStyledIn k q → IsIn k q block → AreOwnLed block (0 + length (label block).opening) true (children_of block)
+pub own_led : (k : TextBlock) (q : List ℕ) (block : Tree) → IsStyledIn k q → IsIn k q block → AreOwnLed block (0 + length (label block).opening) false (children_of block)
 own_led k q block h i =
     let ls : List (List Item) = lines_in k q in
     let at : ℕ = begins_at k in
     let ps : List Part = content_parts_of k (page_items q) in
-    let led : AllLed true ps =
-    subst (AllLed true) (sym (lines_are k q))
-    (lines_led at ls h.flat (flat_nodes ls at (signs_of_lines at ls) h.flat refl) h.kept (content_led k q)) in
+    let led : AllLed false ps =
+    subst (AllLed false) (sym (lines_are k q))
+    (lines_led false at ls h.flat (flat_nodes ls at (signs_of_lines at ls) h.flat refl) h.kept (content_led k q)) in
     let is : block ≡ standing i.number i.before (with_parts k ps) = i.is ∙ ap (standing i.number i.before) (parts_are k q) in
     let free : HasNoGroup (standing i.number i.before (with_parts k ps)) =
     subst (λ (u : ItemTree). HasNoGroup (standing i.number i.before u)) (parts_are k q) (no_group k q i.number i.before h.utf8 h.is h.unended h.calls_nothing) in
-    subst (λ (t : Tree). AreOwnLed t (0 + length (label t).opening) true (children_of t)) (sym is)
+    subst (λ (t : Tree). AreOwnLed t (0 + length (label t).opening) false (children_of t)) (sym is)
     (block_led (block_of k) i.number i.before (open_items k) (close_items k) ps i.some led free)

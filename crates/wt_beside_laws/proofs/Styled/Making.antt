@@ -74,7 +74,7 @@ none_in (tree l ts) h = h.1
 
 stays_in : (k : TextBlock) (block : Tree) (ps : Pieces) → IsStyledEditOf k block ps → AllNest false false (sent_pieces ps)
     → StaysIn k (setting k block) (sent_for block ps)
-stays_in a_paragraph block ps e nest = tt
+stays_in a_paragraph block ps e nest = refl
 stays_in (a_heading w) block ps e nest = (refl, sent_on_one_line (known block) ps e.stay e.are e.fit nest)
 
 pub sent_well : (k : TextBlock) (q : List ℕ) (block : Tree) (ps : Pieces) → IsOwn block → IsStyledIn k q → IsIn k q block → IsStyledEditOf k block ps

@@ -44,6 +44,7 @@ use Rattle.wt_beside_laws.specs.StyledIn.{IsStyledIn}
 use Rattle.wt_beside_laws.proofs.BlockNumbers.{block_counts}
 use Rattle.wt_beside_laws.proofs.BlockSigns.{block_by, its_children, no_leaf, inside}
 use Rattle.wt_beside_laws.proofs.LinesClosed.{stood_stay}
+use Rattle.wt_beside_laws.proofs.TagEnds.{all_end_so}
 use Rattle.wt_beside_laws.proofs.LinesOpen.{StayOnLines}
 use Rattle.wt_beside_laws.proofs.LineThings.{nodes_parts}
 use Rattle.wt_beside_laws.proofs.Made.OldBlocks.{IsIn, block_begins}
@@ -341,4 +342,5 @@ pub own_stays : (k : TextBlock) (q : List ℕ) → IsStyledIn k q → EndTags (s
 own_stays k q h tags =
     let at : ℕ = begins_at k in
     let ls : List (List Item) = lines_in k q in
-    stood_stay false (signs_of k q) (lines_stood at ls h.flat) (lines_untagged at ls h.flat) tags
+    stood_stay false (signs_of k q) (lines_stood at ls h.flat) (lines_untagged at ls h.flat)
+    (all_end_so (signs_of k q) (flat_nodes ls at (signs_of k q) h.flat refl) h.shut) tags

@@ -3,6 +3,7 @@ use Rattle.std.proofs.Common.{◌≡◌, ℕ, ◌==◌, Bool, true, false, List,
 use Rattle.std.specs.Prelude.{if◌then◌else◌, encode_utf8}
 use Rattle.wt_span.specs.Items.{Item}
 use Rattle.wt_tree.specs.Plain.{Plains, text_before}
+use Rattle.wt_tree.specs.declared.edit_shape.Place.TheVariants as place
 use Rattle.wt_guards.specs.Content.{ContentSign, letter, thing}
 use Rattle.wt_guards.specs.Guards.{Setting, is_guarded, spelled}
 use Rattle.wt_guards.specs.Letters.{is_escaped}
@@ -69,7 +70,7 @@ content_is s signs h =
       nodes = subst AreNodes e h.nodes;
       unbroken = subst AreUnbroken e h.unbroken;
       nested = nested signs h.flat;
-      led = subst AreMarksLed e h.led;
+      led = subst (AreMarksLed s.place) e h.led;
       meet = subst (λ (ss : List ContentSign). AllMeet s [] ss []) e h.meet;
     }
 
@@ -105,21 +106,21 @@ shown_are (thing t ∷ after) rest = ap (λ (ps : Plains). parts_shown_at 0 [] (
 
 -- ---- a paragraph
 
-pub closed_is : (s : Setting) (signs : List ContentSign) → IsFlatContent s signs → empty_end (page_items (spelled s signs)) ≡ []
-closed_is s signs h =
-    subst (λ (ss : List ContentSign). empty_end (page_items (spelled s ss)) ≡ []) (signs_are signs) (styled_closed s (plain signs) (content_is s signs h))
+pub closed_is : (s : Setting) (signs : List ContentSign) → s.place ≡ place.Paragraph → IsFlatContent s signs → empty_end (page_items (spelled s signs)) ≡ []
+closed_is s signs i h =
+    subst (λ (ss : List ContentSign). empty_end (page_items (spelled s ss)) ≡ []) (signs_are signs) (styled_closed s (plain signs) i (content_is s signs h))
 
-pub para_is : (s : Setting) (signs : List ContentSign) → IsFlatContent s signs → para (rows (page_items (spelled s signs))) ≡ para_with (content_parts s [] signs)
-para_is s signs h =
+pub para_is : (s : Setting) (signs : List ContentSign) → s.place ≡ place.Paragraph → IsFlatContent s signs → para (rows (page_items (spelled s signs))) ≡ para_with (content_parts s [] signs)
+para_is s signs i h =
     subst (λ (ss : List ContentSign). para (rows (page_items (spelled s ss))) ≡ para_with (styled_parts false s [] (plain signs) [])) (signs_are signs)
-    (styled_para s (plain signs) (content_is s signs h))
+    (styled_para s (plain signs) i (content_is s signs h))
     ∙ ap para_with (parts_are s [] signs)
 
-pub meaning_is : (s : Setting) (signs : List ContentSign) → IsFlatContent s signs
+pub meaning_is : (s : Setting) (signs : List ContentSign) → s.place ≡ place.Paragraph → IsFlatContent s signs
     → meaning (page_items (spelled s signs)) ≡ body_with (para_with (content_parts s [] signs) ∷ [])
-meaning_is s signs h =
+meaning_is s signs i h =
     subst (λ (ss : List ContentSign). meaning (page_items (spelled s ss)) ≡ body_with (para_with (styled_parts false s [] (plain signs) []) ∷ [])) (signs_are signs)
-    (styled_meaning s (plain signs) (content_is s signs h))
+    (styled_meaning s (plain signs) i (content_is s signs h))
     ∙ ap (λ (ps : List Part). body_with (para_with ps ∷ [])) (parts_are s [] signs)
 
 pub content_is_shown : (n : ℕ) (before : List Item) (s : Setting) (signs : List ContentSign) (rest : Plains) → IsFlatContent s signs
@@ -129,14 +130,14 @@ content_is_shown n before s signs rest h =
     ∙ styled_is_shown n before s (plain signs) rest (content_is s signs h)
     ∙ shown_are signs rest
 
-pub paragraph_stands : (before : List Item) (s : Setting) (signs : List ContentSign) (tail : List Item) → EndsApart before → IsFlatContent s signs
-    → EndsParagraph tail
+pub paragraph_stands : (before : List Item) (s : Setting) (signs : List ContentSign) (tail : List Item) → EndsApart before → s.place ≡ place.Paragraph
+    → IsFlatContent s signs → EndsParagraph tail
     → meaning (before ++ (page_items (spelled s signs) ++ tail)) ≡ body_with (blocks_in before ++ para_with (content_parts s [] signs) ∷ blocks_in tail)
-paragraph_stands before s signs tail a h e =
+paragraph_stands before s signs tail a i h e =
     subst
     (λ (ss : List ContentSign). meaning (before ++ (page_items (spelled s ss) ++ tail))
     ≡ body_with (blocks_in before ++ para_with (styled_parts false s [] (plain signs) []) ∷ blocks_in tail))
-    (signs_are signs) (styled_stands before s (plain signs) tail a (content_is s signs h) e)
+    (signs_are signs) (styled_stands before s (plain signs) tail a i (content_is s signs h) e)
     ∙ ap (λ (ps : List Part). body_with (blocks_in before ++ para_with ps ∷ blocks_in tail)) (parts_are s [] signs)
 
 -- ---- a heading

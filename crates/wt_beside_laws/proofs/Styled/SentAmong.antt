@@ -146,7 +146,7 @@ mutual
 
 pub sent_styles : (same : Tree → Tree → Bool) (s : Setting) (ls : List (List Item)) (block : Tree) (us : Trees) → s.within ≡ false → AreFlatLines ls
     → IsBlockOfLines ls block → AreKept (signs_of_lines (length (label block).opening) ls) → AllNest false false us
-    → AreMarksLed (signs_in (sent_content (page_of same block) us))
+    → AreMarksLed s.place (signs_in (sent_content (page_of same block) us))
     → AreSomeOf (all_numbers us) (all_numbers (children_of block)) → AreCharacters (signs_in (sent_content (page_of same block) us))
     → AreUrlsApart (things (signs_in (sent_content (page_of same block) us))) → AllStayOpen s [] (signs_in (sent_content (page_of same block) us))
     → IsStyledContent s (sent_content (page_of same block) us)

@@ -215,7 +215,7 @@ meet_some (t ∷ n ∷ ts) ps a u m = elim a [
 -- ---- the content
 
 pub styled_content : (s : Setting) (ls : List (List Item)) (at : ℕ) (t : StyledContent) → s.within ≡ false → AreFlatLines ls → AreKept (signs_of_lines at ls)
-    → AreCharacters (signs_in t) → AreNested false false t → AreMarksLed (signs_in t) → AreSomeAndPut (things (signs_in t)) (things (signs_of_lines at ls)) → AreUrlsApart (things (signs_in t))
+    → AreCharacters (signs_in t) → AreNested false false t → AreMarksLed s.place (signs_in t) → AreSomeAndPut (things (signs_in t)) (things (signs_of_lines at ls)) → AreUrlsApart (things (signs_in t))
     → AllStayOpen s [] (signs_in t) → IsStyledContent s t
 styled_content s ls at t block flat kept typed nested led some apart unclosed =
     let olds : List ContentSign = signs_of_lines at ls in

@@ -4,6 +4,8 @@ use Rattle.std.specs.Prelude.{◌||◌, if◌then◌else◌}
 use Rattle.wt_span.specs.Items.{Item}
 use Rattle.wt_span.specs.Runs.{AreRuns}
 use Rattle.wt_span.proofs.RunLaws.{runs_are}
+use Rattle.wt_tree.specs.declared.edit_shape.Place.{Place}
+use Rattle.wt_tree.specs.declared.edit_shape.Place.TheVariants as place
 use Rattle.wt_guards.specs.Content.{ContentSign, letter, thing}
 use Rattle.wt_guards.specs.Guards.{Setting, is_guarded, spelled}
 use Rattle.wt_guards.specs.Letters.{is_escaped}
@@ -21,6 +23,7 @@ use Rattle.wt_text_edit_laws.specs.ParagraphBetween.{EndsApart, EndsParagraph, b
 use Rattle.wt_text_edit_laws.specs.ParagraphParts.{break, after_breaks, joined_parts, para_with}
 use Rattle.wt_text_edit_laws.proofs.Texts.PlainRows.{text_row}
 use Rattle.wt_beside_laws.specs.Content.{guard_items, letter_items}
+use Rattle.wt_beside_laws.specs.Led.{BeginsUnled}
 use Rattle.wt_beside_laws.specs.Lines.{IsLineOfText, AreLinesOfText, line_items, later_lines}
 use Rattle.wt_beside_laws.specs.Nests.{style_tree}
 use Rattle.wt_beside_laws.specs.Nodes.{AreNodes, AllMeet}
@@ -125,8 +128,8 @@ record Paragraph (xs : List Item) (ps : List Part) : Type 0 where
   closed : empty_end xs ≡ []
   parts_are : para_parts (map text_row (full_lines xs)) ≡ ps
 
-styled_paragraph : (s : Setting) (t : StyledContent) → IsStyledContent s t → Paragraph (page_items (spelled s (signs_in t))) (styled_parts false s [] t [])
-styled_paragraph s t h =
+styled_paragraph : (s : Setting) (t : StyledContent) → s.place ≡ place.Paragraph → IsStyledContent s t → Paragraph (page_items (spelled s (signs_in t))) (styled_parts false s [] t [])
+styled_paragraph s t i h =
     let signs : List ContentSign = signs_in t in
     let xs : List Item = page_items (spelled s signs) in
     let is = content_lines_are s signs (styled_read s t h) h.unbroken in
@@ -136,13 +139,13 @@ styled_paragraph s t h =
     let own : OwnBreaks xs = subst OwnBreaks (sym (content_alone s signs (styled_read s t h))) (content_own s [] signs h.unbroken) in
     record {
       text = λ n. front_all (IsLineOfText n) (map content (full_lines xs)) (empty_end xs) (all n);
-      unled = lines_unled 0 xs (subst (AreLinesOfText 0) (sym is) (are_lines_of_text 0 s signs h.of_block h.led.first h.characters h.nodes));
+      unled = lines_unled 0 xs (subst (AreLinesOfText 0) (sym is) (are_lines_of_text 0 s signs h.of_block (subst (λ (p : Place). BeginsUnled p signs) i h.led.first) h.characters h.nodes));
       closed = closed;
       parts_are = rows_parts xs (line_items s [] signs) (later_lines s [] signs) own closed is ∙ lines_joined s [] t h.nodes h.nested h.meet;
     }
 
-pub styled_closed : (s : Setting) (t : StyledContent) → IsStyledContent s t → empty_end (page_items (spelled s (signs_in t))) ≡ []
-styled_closed s t h = (styled_paragraph s t h).closed
+pub styled_closed : (s : Setting) (t : StyledContent) → s.place ≡ place.Paragraph → IsStyledContent s t → empty_end (page_items (spelled s (signs_in t))) ≡ []
+styled_closed s t i h = (styled_paragraph s t i h).closed
 
 -- by its lines
 its_lines : (xs : List Item) (ps : List Part) → Paragraph xs ps → ContentLines xs (para_with ps)
@@ -151,27 +154,27 @@ its_lines xs ps p = lines_by xs ps (full_lines xs) refl (runs_are goes_on xs) p.
 rows_are : (xs : List Item) (ps : List Part) (c : ContentLines xs (para_with ps)) → rows xs ≡ paragraph_rows c.first c.others
 rows_are xs ps c = ap rows (sym (append-nil xs)) ∙ unbroken_rows xs (para_with ps) c
 
-pub styled_para : (s : Setting) (t : StyledContent) → IsStyledContent s t → para (rows (page_items (spelled s (signs_in t)))) ≡ para_with (styled_parts false s [] t [])
-styled_para s t h =
+pub styled_para : (s : Setting) (t : StyledContent) → s.place ≡ place.Paragraph → IsStyledContent s t → para (rows (page_items (spelled s (signs_in t)))) ≡ para_with (styled_parts false s [] t [])
+styled_para s t i h =
     let xs : List Item = page_items (spelled s (signs_in t)) in
     let ps : List Part = styled_parts false s [] t [] in
-    let c : ContentLines xs (para_with ps) = its_lines xs ps (styled_paragraph s t h) in
+    let c : ContentLines xs (para_with ps) = its_lines xs ps (styled_paragraph s t i h) in
     ap para (rows_are xs ps c) ∙ c.makes
 
-pub styled_meaning : (s : Setting) (t : StyledContent) → IsStyledContent s t
+pub styled_meaning : (s : Setting) (t : StyledContent) → s.place ≡ place.Paragraph → IsStyledContent s t
     → meaning (page_items (spelled s (signs_in t))) ≡ body_with (para_with (styled_parts false s [] t []) ∷ [])
 unfolding meaning blocks
-styled_meaning s t h =
+styled_meaning s t i h =
     let xs : List Item = page_items (spelled s (signs_in t)) in
     let ps : List Part = styled_parts false s [] t [] in
-    let p = styled_paragraph s t h in
+    let p = styled_paragraph s t i h in
     let c : ContentLines xs (para_with ps) = its_lines xs ps p in
     ap (λ rs. body_of (within MOST_TABLES rs)) (rows_are xs ps c)
     ∙ body_by c.first c.others xs (para_with ps) (subst (λ ms. AreRuns goes_on ms xs) c.are (runs_are goes_on xs)) p.closed c.makes
 
-pub styled_stands : (before : List Item) (s : Setting) (t : StyledContent) (tail : List Item) → EndsApart before → IsStyledContent s t → EndsParagraph tail
+pub styled_stands : (before : List Item) (s : Setting) (t : StyledContent) (tail : List Item) → EndsApart before → s.place ≡ place.Paragraph → IsStyledContent s t → EndsParagraph tail
     → meaning (before ++ (page_items (spelled s (signs_in t)) ++ tail)) ≡ body_with (blocks_in before ++ para_with (styled_parts false s [] t []) ∷ blocks_in tail)
-styled_stands before s t tail a h e =
+styled_stands before s t tail a i h e =
     let xs : List Item = page_items (spelled s (signs_in t)) in
     let ps : List Part = styled_parts false s [] t [] in
-    stands_so before xs tail (para_with ps) a (its_lines xs ps (styled_paragraph s t h)) e
+    stands_so before xs tail (para_with ps) a (its_lines xs ps (styled_paragraph s t i h)) e

@@ -1,6 +1,7 @@
 -- A content with styles that is written for a paragraph or a heading may stand in the place of its old content, and is such a block again.
 use Rattle.std.proofs.Common.{◌≡◌, ℕ, Bool, true, false, List, [], ◌∷◌, ◌++◌, map, refl, sym, ap, ◌∙◌, subst, inl, inr}
 use Rattle.wt_span.specs.Items.{Item, sign as sign_of}
+use Rattle.wt_tree.specs.declared.edit_shape.Place.TheVariants as place
 use Rattle.wt_guards.specs.declared.role.Role.{Role}
 use Rattle.wt_guards.specs.Content.{ContentSign, Thing, letter, thing}
 use Rattle.wt_guards.specs.Guards.{Setting, nowiki, spelled}
@@ -57,7 +58,7 @@ use Rattle.wt_beside_laws.specs.NodeItems.{node_items}
 -- ---- its lines and parts
 
 fits_of : (k : TextBlock) (s : Setting) (t : StyledContent) → StaysIn k s t → FitsIn k s (signs_in t)
-fits_of a_paragraph s t h = tt
+fits_of a_paragraph s t h = h
 fits_of (a_heading w) s t h = h
 
 as_heading : (w : Sides) (s : Setting) (t : StyledContent) → IsStyledContent s t → StaysIn (a_heading w) s t → IsStyledHeading s t
@@ -76,10 +77,10 @@ stays_so : (k : TextBlock) (s : Setting) (t : StyledContent) → IsStyledContent
 stays_so a_paragraph s t c = λ n. texts_by n s (signs_in t) (styled_read s t c) c.characters c.unbroken
 stays_so (a_heading w) s t c = tt
 
-lines_of_text : (s : Setting) (t : StyledContent) → IsStyledContent s t → AreParagraphLines (spelled s (signs_in t))
-lines_of_text s t c = record {
+lines_of_text : (s : Setting) (t : StyledContent) → s.place ≡ place.Paragraph → IsStyledContent s t → AreParagraphLines (spelled s (signs_in t))
+lines_of_text s t e c = record {
   seen = texts_seen 0 (lines (page_items (spelled s (signs_in t)))) (texts_by 0 s (signs_in t) (styled_read s t c) c.characters c.unbroken);
-  unled = unled_by s (signs_in t) (styled_read s t c) c.characters c.unbroken;
+  unled = unled_by s (signs_in t) e (styled_read s t c) c.characters c.unbroken;
 }
 
 -- a delimiter and a nowiki are no URL
@@ -90,7 +91,7 @@ put_told t p = elim p [
 ]
 
 content_so : (k : TextBlock) (q : List ℕ) (s : Setting) (t : StyledContent) → HasFrame k → IsStyledIn k q → IsStyledFor k q s t → IsContentOf k (spelled s (signs_in t))
-content_so a_paragraph q s t f h w = lines_of_text s t w.content
+content_so a_paragraph q s t f h w = lines_of_text s t w.stays w.content
 content_so (a_heading g) q s t f h w =
     let c : IsStyledContent s t = w.content in
     let told : AllTold (signs_in t) =
@@ -173,7 +174,7 @@ styled_again k q s t h w =
     let signs : List ContentSign = signs_in t in
     let c : IsStyledContent s t = w.content in
     let f : HasFrame k = own_frame k q h.is in
-    let b : IsBeforeAny (spelled s signs) = before_any s signs (styled_read s t c) in
+    let b : IsBeforeAny k (spelled s signs) = before_any k s signs (fits_of k s t w.stays) (styled_read s t c) in
     let own : AreUtf8Nodes signs = utf8_so k q s t h w in
     let held = held_so k q s t h w in
     let parts : content_parts_of k (page_items (spelled s signs)) ≡ styled_parts false s [] t [] = styled_parts_so k s t c w.stays in
@@ -221,7 +222,7 @@ styled_new k q s t h w = record {
   firm = record {
     content = styled_in_content k (spelled s (signs_in t)) (styled_again k q s t h w);
     firm = λ rest b j. firm s (signs_in t) rest (styled_read s t w.content) b j;
-    uncommented = λ rest b j. uncommented s (signs_in t) rest (styled_read s t w.content) b j;
+    uncommented = λ rest b j. uncommented k s (signs_in t) rest (fits_of k s t w.stays) (styled_read s t w.content) b j;
     stays = stays_so k s t w.content;
     unclosed = content_unclosed s (signs_in t) (styled_read s t w.content);
   };

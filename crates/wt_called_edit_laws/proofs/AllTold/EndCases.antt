@@ -121,7 +121,7 @@ calm = subst (λ (xs : List Item). CallsNothing xs) (sym are_items) tt
 -- ---- no block of it is excepted
 
 -- each but the last ends its line where it has to
-abbrev AllWhole : List Row → Type 0
+abbrev pub AllWhole : List Row → Type 0
 AllWhole [] = Unit {0}
 AllWhole (r ∷ []) = Unit {0}
 AllWhole (r ∷ s ∷ rs) = EndsIts r.kind r.ending × AllWhole (s ∷ rs)
@@ -131,7 +131,7 @@ front_whole [] r rs h = tt
 front_whole (b ∷ []) r rs h = h.0
 front_whole (b ∷ c ∷ bs) r rs h = front_whole (c ∷ bs) r rs h.1
 
-none_excepted_at : (ls : List (List Item)) (at : ℕ) → AllWhole (rows_from 0 ls) → IsExceptedAt ls at → ⊥
+pub none_excepted_at : (ls : List (List Item)) (at : ℕ) → AllWhole (rows_from 0 ls) → IsExceptedAt ls at → ⊥
 none_excepted_at ls at h (text_on_a_sign before first others behind are f e) =
     f (front_whole before first (others ++ behind) (subst AllWhole are h))
 

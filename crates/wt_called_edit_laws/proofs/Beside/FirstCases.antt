@@ -246,7 +246,7 @@ placed_here =
     subst (λ before. P before (part_items a_word at source) (part_items a_word n [])) (sym (nothing 0))
     (subst (λ xs. P [] xs (part_items a_word n [])) (sym (items_are at)) (subst (λ behind. P [] (given at) behind) (sym (nothing n)) own))
 
-unrefused_here : refusal_of_page a_word source ≡ None
+pub unrefused_here : refusal_of_page a_word source ≡ None
 unfolding words closed form_at comment_len comment_line_len raw_len opening_tag tag_after closing_tag with_inside is_extension
     include_at entity_at named_entity decimal_entity hex_entity entity_names sign_word reduced rewritten text_members trimmed
     trimmed_items name_text called most_templates is_function title_of_target title_in_target read_text is_allowed is_forbidden

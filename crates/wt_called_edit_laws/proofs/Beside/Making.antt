@@ -101,12 +101,12 @@ pub block_face : (pages : Pages) (k : TextBlock) (q : List ℕ) (block : Tree) �
 block_face pages a_paragraph q block i = ap (λ (t : Tree). face (record (label t) { kind = kind.Para })) i.is
 block_face pages (a_heading w) q block i = ap (λ (t : Tree). face (record (label t) { kind = kind.Heading w.level })) i.is
 
-block_opening : (pages : Pages) (k : TextBlock) (q : List ℕ) (block : Tree) → IsSettledIn pages k q block → (label block).opening ≡ sources (open_items k)
+pub block_opening : (pages : Pages) (k : TextBlock) (q : List ℕ) (block : Tree) → IsSettledIn pages k q block → (label block).opening ≡ sources (open_items k)
 block_opening pages a_paragraph q block i = ap (λ (t : Tree). (label t).opening) i.is
 block_opening pages (a_heading w) q block i =
     ap (λ (t : Tree). (label t).opening) i.is ∙ text_own i.calls None (page_chars (opening w)) (chars_of_page (opening w))
 
-block_closing : (pages : Pages) (k : TextBlock) (q : List ℕ) (block : Tree) → IsSettledIn pages k q block → (label block).closing ≡ sources (close_items k)
+pub block_closing : (pages : Pages) (k : TextBlock) (q : List ℕ) (block : Tree) → IsSettledIn pages k q block → (label block).closing ≡ sources (close_items k)
 block_closing pages a_paragraph q block i = ap (λ (t : Tree). (label t).closing) i.is
 block_closing pages (a_heading w) q block i =
     let inside : List Item = held_by_all (forest (children (line_parts (part_items pages i.before q)))) in

@@ -35,8 +35,8 @@ use Rattle.wt_called_edit_laws.proofs.Written.Signs.{content_written}
 
 -- ---- it is read by itself
 
-firm_so : (pages : Pages) (s : Setting) (signs : List ContentSign) → IsWrittenInHeading pages s signs → IsFirmlyRead (spelled s signs)
-firm_so pages s signs h = let c : IsCalledInHeading pages s signs = h.called in called_firm s signs c.of_block h.read
+firm_so : (pages : Pages) (s : Setting) (signs : List ContentSign) (w : Sides) → IsWrittenInHeading pages s signs → IsFirmlyRead (a_heading w) (spelled s signs)
+firm_so pages s signs w h = let c : IsCalledInHeading pages s signs = h.called in called_firm (a_heading w) s signs c.of_block h.read
 
 pub head_read : (pages : Pages) (s : Setting) (signs : List ContentSign) (w : Sides) → IsFrame w → IsWrittenInHeading pages s signs
     → IsReadContent (a_heading w) (spelled s signs)
@@ -48,9 +48,9 @@ head_read pages s signs w f h =
     record {
       utf8 = from_utf8 s [] signs c.characters h.utf8;
       ended = read_items (line ++ 10 ∷ []) (own ++ char None 10 ∷ [])
-          (framed_front w q (10 ∷ []) (char None 10 ∷ []) f (firm_before q (firm_so pages s signs h)) refl break_read);
+          (framed_front w q (10 ∷ []) (char None 10 ∷ []) f (firm_before (a_heading w) q (firm_so pages s signs w h)) refl break_read);
       unended = ap page_items (sym (append-nil line))
-          ∙ read_items (line ++ []) (own ++ []) (framed_front w q [] [] f (firm_before q (firm_so pages s signs h)) tt reads_nothing)
+          ∙ read_items (line ++ []) (own ++ []) (framed_front w q [] [] f (firm_before (a_heading w) q (firm_so pages s signs w h)) tt reads_nothing)
           ∙ append-nil own;
       begins = f;
     }
@@ -106,7 +106,7 @@ head_over pages w q bs items s signs read was opens h e =
       part = record {
         read = record {
           read = head_read pages s signs w f h;
-          firm = firm_so pages s signs h;
+          firm = firm_so pages s signs w h;
           closes = λ name us vs o v.
               content_closes s [] signs name vs (open_things name signs (each_stays (OpenAt name) pages bs (node_sources signs) e (opens name us o))) h.sealed v;
         };

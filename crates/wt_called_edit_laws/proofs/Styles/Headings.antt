@@ -67,8 +67,8 @@ seen_among pages fs (d ∷ ds) a h = elim a [
 
 -- ---- it is read by itself
 
-firm_so : (pages : Pages) (s : Setting) (t : StyledContent) → IsStyledInHeading pages s t → IsFirmlyRead (spelled s (signs_in t))
-firm_so pages s t h = called_firm s (signs_in t) h.of_block (all_read pages (signs_in t) h.each)
+firm_so : (pages : Pages) (s : Setting) (t : StyledContent) (w : Sides) → IsStyledInHeading pages s t → IsFirmlyRead (a_heading w) (spelled s (signs_in t))
+firm_so pages s t w h = called_firm (a_heading w) s (signs_in t) h.of_block (all_read pages (signs_in t) h.each)
 
 head_read : (pages : Pages) (s : Setting) (t : StyledContent) (w : Sides) → IsFrame w → IsStyledInHeading pages s t
     → IsReadContent (a_heading w) (spelled s (signs_in t))
@@ -79,9 +79,9 @@ head_read pages s t w f h =
     record {
       utf8 = from_utf8 s [] (signs_in t) h.characters (all_utf8 pages (signs_in t) h.each);
       ended = read_items (line ++ 10 ∷ []) (own ++ char None 10 ∷ [])
-          (framed_front w q (10 ∷ []) (char None 10 ∷ []) f (firm_before q (firm_so pages s t h)) refl break_read);
+          (framed_front w q (10 ∷ []) (char None 10 ∷ []) f (firm_before (a_heading w) q (firm_so pages s t w h)) refl break_read);
       unended = ap page_items (sym (append-nil line))
-          ∙ read_items (line ++ []) (own ++ []) (framed_front w q [] [] f (firm_before q (firm_so pages s t h)) tt reads_nothing)
+          ∙ read_items (line ++ []) (own ++ []) (framed_front w q [] [] f (firm_before (a_heading w) q (firm_so pages s t w h)) tt reads_nothing)
           ∙ append-nil own;
       begins = f;
     }
@@ -145,7 +145,7 @@ styled_head_over pages w q bs items s t fs read was opens h a e =
       part = record {
         read = record {
           read = head_read pages s t w f h;
-          firm = firm_so pages s t h;
+          firm = firm_so pages s t w h;
           closes = λ name us vs o v.
               content_closes s [] signs name vs (open_put name fs (things signs) a (each_stays (OpenAt name) pages bs (thing_sources fs) e (opens name us o)))
               (all_sealed pages signs h.each) v;

@@ -86,13 +86,13 @@ ended_so : (pages : Pages) (s : Setting) (t : StyledContent) → IsStyledWritten
     → page_items (spelled s (signs_in t) ++ 10 ∷ []) ≡ page_items (spelled s (signs_in t)) ++ char None 10 ∷ []
 ended_so pages s t h =
     let signs : List ContentSign = signs_in t in
-    let f : IsFirmlyRead (spelled s signs) = called_firm s signs h.of_block (all_read pages signs h.each) in
+    let f : IsFirmlyRead a_paragraph (spelled s signs) = called_firm a_paragraph s signs h.of_block (all_read pages signs h.each) in
     f.firm (10 ∷ []) break_stands refl refl ∙ ap (λ (xs : List Item). page_items (spelled s signs) ++ xs) (read_items (10 ∷ []) (char None 10 ∷ []) break_read)
 
 begins_so : (pages : Pages) (s : Setting) (t : StyledContent) → IsStyledWritten pages s t → BeginsParagraph (spelled s (signs_in t))
 begins_so pages s t h =
     let signs : List ContentSign = signs_in t in
-    let f : IsFirmlyRead (spelled s signs) = called_firm s signs h.of_block (all_read pages signs h.each) in
+    let f : IsFirmlyRead a_paragraph (spelled s signs) = called_firm a_paragraph s signs h.of_block (all_read pages signs h.each) in
     stands_begins (spelled s signs) (subst StandsBehind (append-nil (spelled s signs)) (f.uncommented [] nothing_stands tt tt))
     (f.uncommented (10 ∷ []) break_stands refl refl) (ended_so pages s t h)
     (subst (λ (xs : List Item). begins_shown xs ≡ true) (sym (called_alone s signs h.of_block (all_read pages signs h.each)))
@@ -199,7 +199,7 @@ styled_over pages q bs s t fs old was_work opens h a e =
       part = record {
         read = record {
           read = styled_read pages s t h;
-          firm = called_firm s signs h.of_block (all_read pages signs h.each);
+          firm = called_firm a_paragraph s signs h.of_block (all_read pages signs h.each);
           closes = λ name us vs o v.
               content_closes s [] signs name vs (open_put name fs (things signs) a (each_stays (OpenAt name) pages bs (thing_sources fs) e (opens name us o)))
               (all_sealed pages signs h.each) v;

@@ -144,13 +144,13 @@ ended_so : (pages : Pages) (s : Setting) (signs : List ContentSign) → IsWritte
     → page_items (spelled s signs ++ 10 ∷ []) ≡ page_items (spelled s signs) ++ char None 10 ∷ []
 ended_so pages s signs h =
     let c : IsCalledIn pages s signs = h.called in
-    let f : IsFirmlyRead (spelled s signs) = called_firm s signs c.of_block h.read in
+    let f : IsFirmlyRead a_paragraph (spelled s signs) = called_firm a_paragraph s signs c.of_block h.read in
     f.firm (10 ∷ []) break_stands refl refl ∙ ap (λ (xs : List Item). page_items (spelled s signs) ++ xs) (read_items (10 ∷ []) (char None 10 ∷ []) break_read)
 
 begins_so : (pages : Pages) (s : Setting) (signs : List ContentSign) → IsWrittenBeside pages s signs → BeginsParagraph (spelled s signs)
 begins_so pages s signs h =
     let c : IsCalledIn pages s signs = h.called in
-    let f : IsFirmlyRead (spelled s signs) = called_firm s signs c.of_block h.read in
+    let f : IsFirmlyRead a_paragraph (spelled s signs) = called_firm a_paragraph s signs c.of_block h.read in
     stands_begins (spelled s signs) (subst StandsBehind (append-nil (spelled s signs)) (f.uncommented [] nothing_stands tt tt))
     (f.uncommented (10 ∷ []) break_stands refl refl) (ended_so pages s signs h)
     (subst (λ (xs : List Item). begins_shown xs ≡ true) (sym (called_alone s signs c.of_block h.read))
@@ -308,7 +308,7 @@ written_over pages q bs s signs old was_work opens h e =
       part = record {
         read = record {
           read = read_so pages s signs h;
-          firm = called_firm s signs now.of_block h.read;
+          firm = called_firm a_paragraph s signs now.of_block h.read;
           closes = λ name us vs o v. closes_so s bs signs pages e h name vs (opens name us o) v;
         };
         anywhere = part.anywhere;

@@ -9,7 +9,9 @@ use Rattle.wt_typed_blocks.proofs.Forms.{comment_other}
 use Rattle.wt_typed_blocks.proofs.Lines.{unguarded_begins}
 use Rattle.wt_text_edit_laws.specs.ReadContents.{BeginsUnclosed, IsFirmlyRead}
 use Rattle.wt_text_edit_laws.specs.TextBetween.{StandsBehind}
+use Rattle.wt_text_edit_laws.specs.TextBlocks.{TextBlock}
 use Rattle.wt_text_edit_laws.proofs.Between.Fronts.{ReadsAfter, front_reads, behind_reads, reads_after, reads_either}
+use Rattle.wt_text_edit_laws.proofs.Blocks.BlockReading.{uncommented_in}
 use Rattle.wt_text_edit_laws.proofs.Prose.InFront.{Reads, reads_nothing, read_items}
 use Rattle.wt_text_edit_laws.proofs.Prose.Uncommented.{BeginsUncommented, uncommented_other}
 use Rattle.wt_beside_laws.specs.Content.{guard_items, letter_items, content_items}
@@ -133,14 +135,15 @@ called_alone s signs w h =
     ∙ read_items (spelled s signs ++ []) (content_items s [] signs ++ []) (called_reads s signs w h [] [] tt reads_nothing)
     ∙ append-nil (content_items s [] signs)
 
-pub called_firm : (s : Setting) (signs : List ContentSign) → s.within ≡ false → AreReadThings signs → IsFirmlyRead (spelled s signs)
-called_firm s signs w h =
+pub called_firm : (k : TextBlock) (s : Setting) (signs : List ContentSign) → s.within ≡ false → AreReadThings signs → IsFirmlyRead k (spelled s signs)
+called_firm k s signs w h =
     let read : (rest : List ℕ) → StandsBehind rest → BeginsUnclosed rest → Reads (spelled s signs ++ rest) (content_items s [] signs ++ page_items rest) =
     λ rest b u. called_reads s signs w h rest (page_items rest) u (behind_reads rest b) in
     record {
       firm = λ rest b u j.
           read_items (spelled s signs ++ rest) (content_items s [] signs ++ page_items rest) (read rest b u)
           ∙ ap (λ (xs : List Item). xs ++ page_items rest) (sym (called_alone s signs w h));
-      uncommented = λ rest b u j. let r = read rest b u in let begins = r.begins in record { uncommented = begins.is };
+      uncommented = λ rest b u j.
+          let r = read rest b u in let begins = r.begins in uncommented_in k (spelled s signs) rest (record { uncommented = begins.is });
       unclosed = subst BeginsUnclosed (append-nil (spelled s signs)) (spelled_unclosed s [] signs [] h tt);
     }

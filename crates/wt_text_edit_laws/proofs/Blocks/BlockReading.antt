@@ -7,6 +7,7 @@ use Rattle.wt_span.specs.declared.form.Mode.TheVariants.{Page}
 use Rattle.wt_span.specs.declared.form.LexKind.TheVariants.{Equals}
 use Rattle.wt_span.specs.Bytes.{is_blank, is_break}
 use Rattle.wt_span.specs.Items.{Item, char, sources}
+use Rattle.wt_span.specs.Lexemes.{form_at}
 use Rattle.wt_typed_blocks.proofs.Forms.{comment_other, other_byte, equals_byte}
 use Rattle.wt_expand.specs.PageCalls.{expanded_page}
 use Rattle.wt_expand.specs.PageItems.{page_items}
@@ -23,7 +24,7 @@ use Rattle.wt_text_edit_laws.specs.NoCalls.{CallsNothing}
 use Rattle.wt_text_edit_laws.specs.SignParts.{AreSigned, IsOnSign, IsLedTo}
 use Rattle.wt_text_edit_laws.specs.TextBetween.{AreEnded, HasEndsBefore, BeginsShown, StandsBehind, LineEnds}
 use Rattle.wt_text_edit_laws.proofs.Between.LineForms.{ends_before_any}
-use Rattle.wt_text_edit_laws.proofs.Between.Fronts.{ReadsAfter, reads_either, first_from, form_from, page_read, alone_reads, before_reads, behind_reads}
+use Rattle.wt_text_edit_laws.proofs.Between.Fronts.{ReadsAfter, reads_after, reads_either, items_from, first_from, byte_from, form_from, page_read, alone_reads, before_reads, behind_reads}
 use Rattle.wt_text_edit_laws.proofs.Between.Shown.{shown_before, shown_reads}
 use Rattle.wt_text_edit_laws.proofs.Between.LineComments.{lines_ended}
 use Rattle.wt_text_edit_laws.proofs.Between.NoCalls.{calm_expanded, calm_unrefused}
@@ -36,7 +37,7 @@ use Rattle.wt_text_edit_laws.proofs.Texts.TypedItems.{ItemsOf, items_cut, items_
 use Rattle.wt_text_edit_laws.specs.TypedHeadings.{Sides, AreBlanks, AreSides, equals, opening, closing, closing_items, heading_line, EndsLine}
 use Rattle.wt_text_edit_laws.specs.TextBlocks.{TextBlock, a_paragraph, a_heading, source_of, block_items, IsFrame, IsTypedHeading, BeginsLine}
 use Rattle.wt_text_edit_laws.specs.Contents.{IsHeadingLine, IsContentOf, IsContent, IsFirmContent, IsNewContent, TextEnds}
-use Rattle.wt_text_edit_laws.specs.ReadContents.{begins_shown, BeginsParagraph, BeginsBlock, IsReadContent, BeginsUnclosed, joins_reference, BeginsUnjoined, IsFirmlyRead, IsReadAnew}
+use Rattle.wt_text_edit_laws.specs.ReadContents.{begins_shown, BeginsParagraph, BeginsBlock, IsReadContent, BeginsUnclosed, joins_reference, BeginsUnjoined, StaysUncommented, IsFirmlyRead, IsReadAnew}
 use Rattle.wt_text_edit_laws.specs.BlockSpots.{BlockSpot, spots_source, EndBeforeBlocks, IsRead, AreReadAfter, IsReadSpot, AreReadSpots, AreRead}
 
 -- ---- a heading's delimiters
@@ -113,6 +114,38 @@ signs_read : (n : ℕ) (bs : List ℕ) (xs : List Item) → 1 ≤ n → ReadsAft
 signs_read zero bs xs some r = absurd (omega (arith, some))
 signs_read (suc n) bs xs some r = run_reads n bs xs r
 
+-- a blank, where no line begins
+blank_after : (b : ℕ) (bs : List ℕ) (xs : List Item) → form_at Page false (b ∷ bs) ≡ None → is_break b ≡ false → ReadsAfter false bs xs
+    → ReadsAfter false (b ∷ bs) (char None b ∷ xs)
+blank_after b bs xs f e r = record {
+  items = sym (first_from false (b ∷ bs)) ∙ byte_from false b bs f
+      ∙ ap (λ (ys : List Item). char None b ∷ ys) (ap (λ (v : Bool). items_from v 0 bs) e ∙ first_from false bs ∙ r.items);
+}
+
+blanks_after : (bs rest : List ℕ) (xs : List Item) → AreBlanks bs → ReadsAfter false rest xs → ReadsAfter false (bs ++ rest) (page_chars bs ++ xs)
+blanks_after [] rest xs h r = r
+blanks_after (b ∷ bs) rest xs h r =
+    let ends : List ℕ = bs ++ rest in
+    let items : List Item = page_chars bs ++ xs in
+    let so : ReadsAfter false ends items = blanks_after bs rest xs h.1 r in
+    each_quiet (λ (c : ℕ). ReadsAfter false (c ∷ ends) (char None c ∷ items))
+    (reads_after false (61 ∷ ends) (char None 61 ∷ items) (equals_reads ends items so))
+    (blank_after 32 ends items (other_byte Page 32 ends refl) refl so)
+    (blank_after 9 ends items (other_byte Page 9 ends refl) refl so) b (or_right (b == 61) (is_blank b) h.0)
+
+-- a heading's opening delimiter, before what is read where no line begins
+opening_reads : (s : Sides) (rest : List ℕ) (xs : List Item) → AreSides s → ReadsAfter false rest xs → Reads (opening s ++ rest) (page_chars (opening s) ++ xs)
+opening_reads s rest xs a r =
+    let run : List ℕ = equals s.level in
+    let signs : List Item = page_chars run in
+    let blanks : List Item = page_chars s.lead in
+    let all : Reads (run ++ (s.lead ++ rest)) (signs ++ (blanks ++ xs)) =
+    signs_read s.level (s.lead ++ rest) (blanks ++ xs) a.some (blanks_after s.lead rest xs a.lead r) in
+    let items : page_chars (opening s) ++ xs ≡ signs ++ (blanks ++ xs) =
+    ap (λ (zs : List Item). zs ++ xs) (map-append (char None) run s.lead) ∙ append_assoc signs blanks xs in
+    subst (λ bs. Reads bs (page_chars (opening s) ++ xs)) (sym (append_assoc run s.lead rest))
+    (subst (λ ys. Reads (run ++ (s.lead ++ rest)) ys) (sym items) all)
+
 -- behind the last `=`, where a line break is after it or the page ends
 rest_reads : (s : Sides) (rest : List ℕ) (xs : List Item) → IsFrame s → EndsHere rest → Reads rest xs
     → ReadsAfter false (s.rest ++ rest) (page_items s.rest ++ xs)
@@ -146,13 +179,27 @@ closing_front s rest xs f e r =
 pub typed_text : (s : Sides) (q : List ℕ) → IsTypedHeading s q → IsTypedPage q
 typed_text s q h = record { setting = h.setting; text = h.text; utf8 = h.utf8; of_block = h.of_block; is = h.is }
 
+-- A paragraph's content is read so whether a line begins before it or not. In a heading none does: a `=` is before it, with blanks or none between.
+abbrev pub ReadsIn : TextBlock → List ℕ → List Item → Type 0
+ReadsIn a_paragraph bs xs = Reads bs xs
+ReadsIn (a_heading s) bs xs = ReadsAfter false bs xs
+
+pub reads_in : (k : TextBlock) (bs : List ℕ) (xs : List Item) → Reads bs xs → ReadsIn k bs xs
+reads_in a_paragraph bs xs r = r
+reads_in (a_heading s) bs xs r = reads_after false bs xs r
+
+-- so it is of what no line of comments begins
+pub uncommented_in : (k : TextBlock) (q rest : List ℕ) → StandsBehind (q ++ rest) → StaysUncommented k q rest
+uncommented_in a_paragraph q rest h = h
+uncommented_in (a_heading s) q rest h = tt
+
 -- these bytes are read the same before anything with which no reference goes on
-abbrev pub IsBeforeAny : List ℕ → Type 0
-IsBeforeAny q = (rest : List ℕ) (xs : List Item) → BeginsUnjoined rest → Reads rest xs → Reads (q ++ rest) (page_items q ++ xs)
+abbrev pub IsBeforeAny : TextBlock → List ℕ → Type 0
+IsBeforeAny k q = (rest : List ℕ) (xs : List Item) → BeginsUnjoined rest → Reads rest xs → ReadsIn k (q ++ rest) (page_items q ++ xs)
 
 -- or before what doesn't begin with a `}` either
-abbrev pub IsBeforeUnclosed : List ℕ → Type 0
-IsBeforeUnclosed q = (rest : List ℕ) (xs : List Item) → BeginsUnclosed rest → BeginsUnjoined rest → Reads rest xs → Reads (q ++ rest) (page_items q ++ xs)
+abbrev pub IsBeforeUnclosed : TextBlock → List ℕ → Type 0
+IsBeforeUnclosed k q = (rest : List ℕ) (xs : List Item) → BeginsUnclosed rest → BeginsUnjoined rest → Reads rest xs → ReadsIn k (q ++ rest) (page_items q ++ xs)
 
 end_unclosed : (rest : List ℕ) → EndsHere rest → BeginsUnclosed rest
 end_unclosed [] e = tt
@@ -183,16 +230,16 @@ closing_unjoined s rest a = closing_begins BeginsUnjoined s rest (signs_unjoined
 closing_unclosed : (s : Sides) (rest : List ℕ) → AreSides s → BeginsUnclosed (closing s ++ rest)
 closing_unclosed s rest a = closing_begins BeginsUnclosed s rest (signs_unclosed s.trail s.level (s.rest ++ rest) a.trail a.some)
 
-pub framed_front : (s : Sides) (q rest : List ℕ) (xs : List Item) → IsFrame s → IsBeforeUnclosed q → EndsHere rest → Reads rest xs
+pub framed_front : (s : Sides) (q rest : List ℕ) (xs : List Item) → IsFrame s → IsBeforeUnclosed (a_heading s) q → EndsHere rest → Reads rest xs
     → Reads (source_of (a_heading s) q ++ rest) (heading_line s (page_items q) ++ xs)
 framed_front s q rest xs h f e r =
     let own : List Item = page_items q in
     let o : List Item = page_chars (opening s) in
     let c : List Item = closing_items s in
     let end : Reads (closing s ++ rest) (c ++ xs) = closing_front s rest xs h e r in
-    let text : Reads (q ++ (closing s ++ rest)) (own ++ (c ++ xs)) = f (closing s ++ rest) (c ++ xs) (closing_unclosed s rest h.sides) (closing_unjoined s rest h.sides) end in
+    let text : ReadsAfter false (q ++ (closing s ++ rest)) (own ++ (c ++ xs)) = f (closing s ++ rest) (c ++ xs) (closing_unclosed s rest h.sides) (closing_unjoined s rest h.sides) end in
     let all : Reads (opening s ++ (q ++ (closing s ++ rest))) (o ++ (own ++ (c ++ xs))) =
-    read_quiet (opening s) (q ++ (closing s ++ rest)) (own ++ (c ++ xs)) (opening_quiet s h.sides) text in
+    opening_reads s (q ++ (closing s ++ rest)) (own ++ (c ++ xs)) h.sides text in
     let source : source_of (a_heading s) q ++ rest ≡ opening s ++ (q ++ (closing s ++ rest)) =
     append_assoc (opening s) (q ++ closing s) rest ∙ ap (λ (bs : List ℕ). opening s ++ bs) (append_assoc q (closing s) rest) in
     let items : heading_line s own ++ xs ≡ o ++ (own ++ (c ++ xs)) =
@@ -205,12 +252,12 @@ HasFrame a_paragraph = Unit {0}
 HasFrame (a_heading s) = IsFrame s
 
 -- a block whose content is read the same before anything, but a `}`
-unclosed_front : (k : TextBlock) (q rest : List ℕ) (xs : List Item) → HasFrame k → IsBeforeUnclosed q → EndsHere rest → Reads rest xs
+unclosed_front : (k : TextBlock) (q rest : List ℕ) (xs : List Item) → HasFrame k → IsBeforeUnclosed k q → EndsHere rest → Reads rest xs
     → Reads (source_of k q ++ rest) (block_items k q ++ xs)
 unclosed_front a_paragraph q rest xs h f e r = f rest xs (end_unclosed rest e) (end_unjoined rest e) r
 unclosed_front (a_heading s) q rest xs h f e r = framed_front s q rest xs h f e r
 
-pub any_front : (k : TextBlock) (q rest : List ℕ) (xs : List Item) → HasFrame k → IsBeforeAny q → EndsHere rest → Reads rest xs
+pub any_front : (k : TextBlock) (q rest : List ℕ) (xs : List Item) → HasFrame k → IsBeforeAny k q → EndsHere rest → Reads rest xs
     → Reads (source_of k q ++ rest) (block_items k q ++ xs)
 any_front k q rest xs h f e r = unclosed_front k q rest xs h (λ rs ys u j s. f rs ys j s) e r
 
@@ -228,7 +275,7 @@ content_begins_block (a_heading s) q h e = h.frame
 pub content_read : (k : TextBlock) (q : List ℕ) → IsContent k q → IsReadContent k q
 content_read k q h = record { utf8 = h.utf8; ended = h.ended; unended = h.unended; begins = content_begins_block k q h.is h.ended }
 
-pub firmly_read : (k : TextBlock) (q : List ℕ) → IsFirmContent k q → IsFirmlyRead q
+pub firmly_read : (k : TextBlock) (q : List ℕ) → IsFirmContent k q → IsFirmlyRead k q
 firmly_read k q h = record { firm = λ rest b u j. h.firm rest b j; uncommented = λ rest b u j. h.uncommented rest b j; unclosed = h.unclosed }
 
 pub read_anew : (k : TextBlock) (was now : List ℕ) → IsNewContent k was now → IsReadAnew k was now
@@ -293,13 +340,20 @@ own_front k q (b ∷ r) xs h l e read =
     subst P (sym e) (λ m z. reads_shown (line ++ 10 ∷ r) (own ++ xs) (content_begins k q (10 ∷ r) h refl) (line_reads line r own xs m h.ended z)) l read
 
 -- one that is firm, whatever stands behind it
-pub firm_before : (q : List ℕ) → IsFirmlyRead q → IsBeforeUnclosed q
-firm_before q h rest xs c j r =
+firm_items : (k : TextBlock) (q : List ℕ) → IsFirmlyRead k q → (rest : List ℕ) (xs : List Item) → BeginsUnclosed rest → BeginsUnjoined rest → Reads rest xs
+    → ReadsAfter false (q ++ rest) (page_items q ++ xs)
+firm_items k q h rest xs c j r =
     let b : BeginsUncommented rest = r.begins in
-    let behind : StandsBehind rest = record { uncommented = b.is } in
-    let u : StandsBehind (q ++ rest) = h.uncommented rest behind c j in
-    let items : page_items (q ++ rest) ≡ page_items q ++ xs = h.firm rest behind c j ∙ ap (λ ys. page_items q ++ ys) (read_items rest xs r) in
-    reads_either (q ++ rest) (page_items q ++ xs) (record { is = u.uncommented }) (subst (λ ys. ReadsAfter false (q ++ rest) ys) items (alone_reads (q ++ rest)))
+    let items : page_items (q ++ rest) ≡ page_items q ++ xs =
+    h.firm rest (record { uncommented = b.is }) c j ∙ ap (λ ys. page_items q ++ ys) (read_items rest xs r) in
+    subst (λ ys. ReadsAfter false (q ++ rest) ys) items (alone_reads (q ++ rest))
+
+pub firm_before : (k : TextBlock) (q : List ℕ) → IsFirmlyRead k q → IsBeforeUnclosed k q
+firm_before a_paragraph q h rest xs c j r =
+    let b : BeginsUncommented rest = r.begins in
+    let u : StandsBehind (q ++ rest) = h.uncommented rest (record { uncommented = b.is }) c j in
+    reads_either (q ++ rest) (page_items q ++ xs) (record { is = u.uncommented }) (firm_items a_paragraph q h rest xs c j r)
+firm_before (a_heading s) q h rest xs c j r = firm_items (a_heading s) q h rest xs c j r
 
 -- ---- a block begins with something visible
 
@@ -317,7 +371,7 @@ block_shown k q h = begins_by_sign k q h.begins
 pub block_front : (k : TextBlock) (q rest : List ℕ) (xs : List Item) → IsReadContent k q → TextEnds k q rest → EndsHere rest → Reads rest xs
     → ReadsShown (source_of k q ++ rest) (block_items k q ++ xs)
 block_front k q rest xs h (inl f) e r =
-    let own : Reads (source_of k q ++ rest) (block_items k q ++ xs) = unclosed_front k q rest xs (read_frame k q h) (firm_before q f) e r in
+    let own : Reads (source_of k q ++ rest) (block_items k q ++ xs) = unclosed_front k q rest xs (read_frame k q h) (firm_before k q f) e r in
     record {
       items = own.items;
       shown = shown_reads (source_of k q ++ rest) (block_items k q ++ xs) own (shown_before (block_items k q) xs (block_shown k q h));

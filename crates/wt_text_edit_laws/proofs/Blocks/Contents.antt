@@ -37,7 +37,7 @@ use Rattle.wt_text_edit_laws.proofs.Paragraphs.LineBlocks.{page_breaks, all_unle
 use Rattle.wt_text_edit_laws.proofs.Paragraphs.SeenLines.{texts_seen}
 use Rattle.wt_text_edit_laws.proofs.Paragraphs.Texts.{EndsHere, paragraph_lines, paragraph_utf8, paragraph_written}
 use Rattle.wt_text_edit_laws.proofs.Headings.HeadingRows.{text_inside}
-use Rattle.wt_text_edit_laws.proofs.Blocks.BlockReading.{typed_text, IsBeforeAny, HasFrame, any_front, firmly_read}
+use Rattle.wt_text_edit_laws.proofs.Blocks.BlockReading.{typed_text, reads_in, uncommented_in, IsBeforeAny, HasFrame, any_front, firmly_read}
 use Rattle.wt_text_edit_laws.proofs.Blocks.SignBraces.{items_unclosed}
 use Rattle.wt_text_edit_laws.proofs.Blocks.BlockLeaves.{open_items, close_items, block_leaves}
 use Rattle.wt_text_edit_laws.proofs.Blocks.BlockLines.{heading_frame, heading_level, heading_text}
@@ -55,11 +55,11 @@ typed_frame : (k : TextBlock) (q : List ℕ) → IsTypedIn k q → HasFrame k
 typed_frame a_paragraph q h = tt
 typed_frame (a_heading s) q h = h.frame
 
-page_before : (q : List ℕ) → IsTypedPage q → IsBeforeAny q
-page_before q h rest xs j r = page_front q rest xs h r
+page_before : (k : TextBlock) (q : List ℕ) → IsTypedPage q → IsBeforeAny k q
+page_before k q h rest xs j r = reads_in k (q ++ rest) (page_items q ++ xs) (page_front q rest xs h r)
 
 typed_reads : (k : TextBlock) (q rest : List ℕ) (xs : List Item) → IsTypedIn k q → EndsHere rest → Reads rest xs → Reads (source_of k q ++ rest) (block_items k q ++ xs)
-typed_reads k q rest xs h e r = any_front k q rest xs (typed_frame k q h) (page_before q (typed_page k q h)) e r
+typed_reads k q rest xs h e r = any_front k q rest xs (typed_frame k q h) (page_before k q (typed_page k q h)) e r
 
 typed_ended : (k : TextBlock) (q : List ℕ) → IsTypedIn k q → page_items (source_of k q ++ 10 ∷ []) ≡ block_items k q ++ char None 10 ∷ []
 typed_ended k q h =
@@ -165,12 +165,12 @@ typed_firm k q h = record {
   firm = λ rest b j. read_items (q ++ rest) (page_items q ++ page_items rest) (page_front q rest (page_items rest) (typed_page k q h) (behind_reads rest b));
   uncommented = λ rest b j.
       let r : Reads (q ++ rest) (page_items q ++ page_items rest) = page_front q rest (page_items rest) (typed_page k q h) (behind_reads rest b) in
-      stands (q ++ rest) r.begins;
+      uncommented_in k q rest (stands (q ++ rest) r.begins);
   stays = typed_stays k q h;
   unclosed = items_unclosed q (unbraced_begins (page_items q) (page_unbraced q (typed_page k q h)));
 }
 
-pub typed_firmly : (k : TextBlock) (q : List ℕ) → IsTypedIn k q → IsFirmlyRead q
+pub typed_firmly : (k : TextBlock) (q : List ℕ) → IsTypedIn k q → IsFirmlyRead k q
 typed_firmly k q h = firmly_read k q (typed_firm k q h)
 
 typed_unclosed : (q name rest : List ℕ) → IsTypedPage q → Unclosed name rest → Unclosed name (q ++ rest)

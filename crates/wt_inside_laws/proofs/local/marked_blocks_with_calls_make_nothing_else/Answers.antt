@@ -1,5 +1,5 @@
-use Rattle.wt_inside_laws.proofs.EditsWithCalls.{calls_typed}
+use Rattle.wt_inside_laws.proofs.EditsWithCalls.{marked_typed}
 use Rattle.wt_inside_laws.proofs.local.marked_blocks_with_calls_make_nothing_else.Goals as goal
 
 pub returns : goal.returns
-returns c = calls_typed
+returns c = marked_typed
