@@ -52,7 +52,6 @@ AllEndSo [] = Unit {0}
 AllEndSo (letter c ∷ after) = AllEndSo after
 AllEndSo (thing t ∷ after) = EndsSo t × AllEndSo after
 
-
 letter_back : (k d c : ℕ) (v : Bool) (more : List Glyph) (rest : List (Option Thing)) → tag_at (glyph.Byte c ∷ more) ≡ None
     → EndOnLine (if v then None ∷ rest else rest) → partner k d (if v then [] else byte_glyphs (encode_utf8 c) ++ more) ≡ None
     → (EndOnLine rest → partner k d more ≡ None → NoneOnLine k d rest) → NoneOnLine k d (if v then None ∷ rest else rest)
