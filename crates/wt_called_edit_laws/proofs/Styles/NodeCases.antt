@@ -198,7 +198,7 @@ group_shows = λ i rest.
     ∙ shows_word i rest
     ∙ sym (group_is.1 rest)
 
--- and has no bold or italic of its own
+-- and has no bold
 nests : (i : ℕ) → PartsNestIn true false (line_parts (char (Some i) 98 ∷ []))
 unfolding context_parts chunks segments loose_segments tiles shapes closes tile_at link_or_url link_at ext_link_at bare_url_at scheme_len
     tag_tile tag_at switch_at with_styles style_tree_of toggles_of toggle_at opens_tag closes_tag place_of since next bold_ends_later effect_on
