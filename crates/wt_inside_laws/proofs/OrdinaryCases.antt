@@ -223,7 +223,7 @@ all_stay = refl
 pub stays : AllStay new
 stays = stay_so (places new) all_stay
 
--- ---- it is ordinary
+-- ---- the block is ordinary
 
 nodes_end : AreEndedNodes (signs_in a_paragraph (codes "b '''c''' [[d]]"))
 unfolding page_items words closed form_at comment_len comment_line_len raw_len opening_tag tag_after closing_tag with_inside is_extension include_at entity_at
