@@ -8,10 +8,13 @@ pub mod FoundBlocks
 pub mod EachBlocks
 pub mod TreeBlocks
 pub mod LineKinds
+pub mod EndSigns
+pub mod TextFacts
 pub mod Scans
 pub mod Scanned
 pub mod Starts
 pub mod RowBlocks
+pub mod SignLines
 pub mod LineBlocks
 pub mod PlaceStarts
 pub mod ToldStarts
@@ -23,6 +26,8 @@ pub mod NodePlaces
 pub mod OwnNodes
 pub mod Outside
 pub mod OwnTrees
+pub mod SignTrees
+pub mod SignBlocks
 pub mod HeadSigns
 pub mod OwnLines
 pub mod Alone

@@ -42,6 +42,7 @@ pub mod CallingFrames
 mod CallingCases
 pub mod SpotFrames
 pub mod ContentItems
+pub mod SignLeads
 pub mod SignRows
 mod EndCases
 pub mod SpotRows

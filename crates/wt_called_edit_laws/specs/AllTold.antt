@@ -1,5 +1,5 @@
 -- Each paragraph and heading of a page's tree that holds no call is told by the lines of the expanded page; and those that these don't tell.
-use Rattle.std.specs.Prelude.{◌≡◌, ◌⊎◌, ℕ, zero, suc, ◌+◌, false, None, List, [], ◌∷◌, ◌++◌, length, map}
+use Rattle.std.specs.Prelude.{◌≡◌, ◌⊎◌, ℕ, zero, suc, ◌+◌, false, None, List, [], ◌∷◌, ◌++◌, length, drop, map}
 use Rattle.wt_span.specs.Items.{Item, sources}
 use Rattle.wt_span.specs.Origins.{Expanded}
 use Rattle.wt_tree.specs.Source.{flat}
@@ -8,19 +8,21 @@ use Rattle.wt_tree.specs.Tree.{Tree, tree, Trees, none, more, label}
 use Rattle.wt_annotated.specs.Seams.{text_from}
 use Rattle.wt_expand.specs.PageCalls.{expanded_page}
 use Rattle.wt_expand.specs.Work.{Pages}
+use Rattle.wt_lines.specs.declared.kind.LineKind.TheVariants as line
 use Rattle.wt_lines.specs.Lines.{content, full_lines}
 use Rattle.wt_tables.specs.Parts.{joined}
-use Rattle.wt_page.specs.Lines.{ending}
-use Rattle.wt_page.specs.Rows.{Row, rows_from}
+use Rattle.wt_page.specs.Lines.{ending, kind_at}
+use Rattle.wt_page.specs.Rows.{marks_len, is_unseen}
 use Rattle.wt_selser.specs.Edits.{is_tangled}
-use Rattle.wt_text_edit_laws.specs.BodyParagraphs.{EndWhole}
+use Rattle.wt_text_edit_laws.specs.ParagraphBetween.{tables_behind}
+use Rattle.wt_text_edit_laws.specs.ReadContents.{BeginsUnclosed}
 use Rattle.wt_text_edit_laws.specs.SignParts.{IsLedTo}
 use Rattle.wt_text_edit_laws.specs.Unclosed.{holds_unclosed}
 use Rattle.wt_called_edit_laws.specs.ContentsTaken.{TakesContents}
 use Rattle.wt_called_edit_laws.specs.Groups.{called_tree}
 use Rattle.wt_called_edit_laws.specs.LinedAmong.{spots_of_lines, end_of_lines, IsNoFunction, AreOfPage, AreBeside}
-use Rattle.wt_called_edit_laws.specs.PlacedLines.{all_lines}
-use Rattle.wt_called_edit_laws.specs.RowBlocks.{IsTextBlock, IsReachedAt, StandsIn, opened_len, begins_behind}
+use Rattle.wt_called_edit_laws.specs.PlacedLines.{lead_of, all_lines}
+use Rattle.wt_called_edit_laws.specs.RowBlocks.{IsTextBlock, IsReachedAt, StandsIn, opened_len, end_sign, past_end, rule_sign, past_rule, begins_past}
 use Rattle.wt_called_edit_laws.specs.ToldAmong.{IsToldAmong}
 use Rattle.wt_called_edit_laws.specs.ToldLines.{Told, lined, AreTold}
 use Rattle.wt_called_edit_laws.specs.ToldTogether.{AreSome, start_of}
@@ -38,15 +40,18 @@ abbrev mutual
 
 -- ---- what lines don't tell
 
--- Behind so many items begins text behind the `|}` of a table's end or the `-` of a rule, on the same line.
+-- Behind so many items begins text behind the `-` of a rule, on the same line; or behind the `|}` of a table's end text that begins with `}`.
 pub data IsExceptedAt (ls : List (List Item)) (at : ℕ) : Type 0 where
-  text_on_a_sign : (before : List Row) (first : Row) (others behind : List Row) → rows_from 0 ls ≡ before ++ ((first ∷ others) ++ behind)
-      → (EndWhole before → ⊥) → at ≡ begins_behind before first → IsExceptedAt ls at
+  text_on_a_rule : (before : List (List Item)) (own : List Item) (behind : List (List Item)) → ls ≡ before ++ own ∷ behind
+      → kind_at (tables_behind 0 before) own ≡ line.Rule → is_unseen (past_rule own) ≡ false → at ≡ begins_past before (rule_sign own) (past_rule own) → IsExceptedAt ls at
+  a_brace_on_an_end : (before : List (List Item)) (own : List Item) (others behind : List (List Item)) → ls ≡ before ++ ((own ∷ others) ++ behind)
+      → kind_at (tables_behind 0 before) own ≡ line.TableEnd → is_unseen (past_end own) ≡ false
+      → (BeginsUnclosed (sources (content (joined (drop (marks_len (past_end own)) (past_end own) ∷ others)))) → ⊥) → at ≡ begins_past before (end_sign own) (past_end own) → IsExceptedAt ls at
 
--- Behind these items and the marks that begin a block's lines the page is ended for it: by a line break, a comment or a tag, or by the end of a call, where
+-- Behind these items and what begins a block's lines the page is ended for it: by a line break, a comment or a tag, or by a table's end or that of a call, where
 -- no `<` is behind the last `>` and the last line break and the block begins with no `}`. And the line break behind it comes from no call.
 pub record IsBesideNoCall (e : Expanded) (front : List Item) (t : Told) : Type 0 where
-  pub led : IsLedTo (text_from e.outer None (front ++ (lined t).marks)) (lined t).block (lined t).text
+  pub led : IsLedTo (text_from e.outer None (front ++ lead_of (lined t))) (lined t).block (lined t).text
   pub ending : AreOfPage (ending (joined ((lined t).first ∷ (lined t).more)))
 
 -- none of them is a function that is kept
@@ -57,7 +62,7 @@ AreNoFunctions (x ∷ xs) = IsNoFunction x × AreNoFunctions xs
 -- no call that is text has a byte of a block's lines behind these items and the marks that begin them
 abbrev pub IsBesideTexts : Expanded → List Item → Told → Type 0
 IsBesideTexts e front t =
-    let from = length (text_from e.outer None (front ++ (lined t).marks)) in
+    let from = length (text_from e.outer None (front ++ lead_of (lined t))) in
     AreBeside from (from + length (sources (joined ((lined t).first ∷ (lined t).more)))) e.text_calls
 
 -- So of an expanded page: one of these by its lines; or a block for which a call gives the line break behind it, or directly behind a call, if it begins

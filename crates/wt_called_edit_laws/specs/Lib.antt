@@ -50,6 +50,7 @@ pub mod Written
 pub mod WrittenAnew
 pub mod SentAsIs
 pub mod PlacedBlocks
+pub mod SignLines
 pub mod PlacedSpots
 pub mod PlacedLines
 pub mod PlacedAmong

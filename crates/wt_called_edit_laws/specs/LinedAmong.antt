@@ -17,16 +17,16 @@ use Rattle.wt_text_edit_laws.specs.PageCuts.{EndClosed, AreFree}
 use Rattle.wt_text_edit_laws.specs.SignParts.{IsLedTo}
 use Rattle.wt_called_edit_laws.specs.Covered.{AreInNoGroup}
 use Rattle.wt_called_edit_laws.specs.Groups.{called_tree}
-use Rattle.wt_called_edit_laws.specs.PlacedLines.{LinedBlock, all_lines, AreLined}
+use Rattle.wt_called_edit_laws.specs.PlacedLines.{LinedBlock, lead_of, all_lines, AreLined}
 
 -- ---- as parts of the page
 
--- What is on the page for the lines before a block and the marks that begin it, and for what is left of the line before these: of items that a call
+-- What is on the page for the lines before a block and the sign and marks that begin its line, and for what is left of the line before these: of items that a call
 -- gives it is this call, once.
 abbrev pub spots_on : List OuterCall → List Item → List LinedBlock → List BlockSpot
 spots_on calls es [] = []
 spots_on calls es (b ∷ bs) =
-    record { before = text_from calls None ((es ++ joined b.before) ++ b.marks); block = b.block; text = b.text }
+    record { before = text_from calls None ((es ++ joined b.before) ++ lead_of b); block = b.block; text = b.text }
     ∷ spots_on calls (ending (joined (b.first ∷ b.more))) bs
 
 abbrev pub end_on : List OuterCall → List Item → List LinedBlock → List (List Item) → List ℕ
@@ -72,7 +72,7 @@ AreBeside from to (s ∷ ss) = ((s.1 ≤ from) ⊎ (to ≤ s.0)) × AreBeside fr
 abbrev pub AreUntouched : List OuterCall → List Span → ℕ → List Item → List LinedBlock → Type 0
 AreUntouched calls texts at es [] = Unit {0}
 AreUntouched calls texts at es (b ∷ bs) =
-    let from = at + length (text_from calls None ((es ++ joined b.before) ++ b.marks)) in
+    let from = at + length (text_from calls None ((es ++ joined b.before) ++ lead_of b)) in
     let own = joined (b.first ∷ b.more) in
     AreBeside from (from + length (sources own)) texts × AreUntouched calls texts (from + length (sources (content own))) (ending own) bs
 

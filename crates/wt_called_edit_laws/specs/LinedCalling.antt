@@ -13,7 +13,6 @@ use Rattle.wt_expand.specs.Work.{Pages}
 use Rattle.wt_commands.specs.Answers.{refusal_of_page}
 use Rattle.wt_part_laws.specs.Slots.{AllTrue}
 use Rattle.wt_text_edit_laws.specs.BlockSpots.{BlockSpot}
-use Rattle.wt_text_edit_laws.specs.ParagraphBetween.{written_rows}
 use Rattle.wt_text_edit_laws.specs.ParagraphParts.{break}
 use Rattle.wt_text_edit_laws.specs.TextBlocks.{TextBlock, a_paragraph, a_heading, source_of}
 use Rattle.wt_called_edit_laws.specs.AnyBlocks.{open_after, EndsFor, NextApart}
@@ -22,59 +21,61 @@ use Rattle.wt_called_edit_laws.specs.Covered.{HaveFreeBytes}
 use Rattle.wt_called_edit_laws.specs.EditableBlocks.{AreEditableContents}
 use Rattle.wt_called_edit_laws.specs.Groups.{called_tree}
 use Rattle.wt_called_edit_laws.specs.LinedAmong.{spots_of_lines, AreOfPage, AreBeside}
-use Rattle.wt_called_edit_laws.specs.PlacedBlocks.{AreLinesAt}
-use Rattle.wt_called_edit_laws.specs.PlacedLines.{LinedBlock, all_lines, LinesApart}
+use Rattle.wt_called_edit_laws.specs.PlacedLines.{LinedBlock, lead_of, front_rows, all_lines, LinesApart}
+use Rattle.wt_called_edit_laws.specs.SignLines.{IsSignFor, IsApartFrom, AreLinesOn}
 
 -- ---- where they stand
 
--- its own lines: each of a paragraph is text where so many tables are open
-abbrev pub LinesOf : TextBlock → ℕ → List (List Item) → Type 0
-LinesOf a_paragraph n ls = AreLinesAt n ls
-LinesOf (a_heading s) n ls = Unit {0}
+-- its own lines behind this sign: each of a paragraph is text where so many tables are open
+abbrev pub LinesOf : List Item → TextBlock → ℕ → List (List Item) → Type 0
+LinesOf sign a_paragraph n ls = AreLinesOn sign n ls
+LinesOf sign (a_heading s) n ls = Unit {0}
 
 -- as `IsLinedAt`
 pub record IsCallingAt (open_tables : List Bool) (b : LinedBlock) : Type 0 where
+  pub sign : IsSignFor b.block (length open_tables) b.before b.sign
   pub are_marks : list_all is_mark b.marks ≡ true
   pub some : 1 ≤ length b.first
-  pub in_cells : AllTrue (open_after open_tables (written_rows (length open_tables) b.before))
-  pub apart : EndsFor b.block (written_rows (length open_tables) b.before)
-  pub own : LinesOf b.block (length (open_after open_tables (written_rows (length open_tables) b.before))) (b.first ∷ b.more)
+  pub in_cells : AllTrue (open_after open_tables (front_rows (length open_tables) b))
+  pub apart : EndsFor b.block (front_rows (length open_tables) b)
+  pub own : LinesOf b.sign b.block (length (open_after open_tables (front_rows (length open_tables) b))) (b.first ∷ b.more)
 
 abbrev pub AreCallingAfter : TextBlock → List Bool → List LinedBlock → List (List Item) → Type 0
 AreCallingAfter last open_tables [] behind = LinesApart last (length open_tables) behind
 AreCallingAfter last open_tables (b ∷ bs) behind =
-    NextApart last b.block (written_rows (length open_tables) b.before) × IsCallingAt open_tables b
-    × AreCallingAfter b.block (open_after open_tables (written_rows (length open_tables) b.before)) bs behind
+    NextApart last b.block (front_rows (length open_tables) b) × IsCallingAt open_tables b
+    × AreCallingAfter b.block (open_after open_tables (front_rows (length open_tables) b)) bs behind
 
 -- there is one at least
 abbrev pub AreCallingLined : List LinedBlock → List (List Item) → Type 0
 AreCallingLined [] behind = ⊥
-AreCallingLined (b ∷ bs) behind = IsCallingAt [] b × AreCallingAfter b.block (open_after [] (written_rows 0 b.before)) bs behind
+AreCallingLined (b ∷ bs) behind = IsCallingAt [] b × AreCallingAfter b.block (open_after [] (front_rows 0 b)) bs behind
 
 -- ---- what they give
 
 -- as parts of the page, where this is left of the line before
 abbrev pub spot_on : List OuterCall → List Item → LinedBlock → BlockSpot
-spot_on calls es b = record { before = text_from calls None ((es ++ joined b.before) ++ b.marks); block = b.block; text = b.text }
+spot_on calls es b = record { before = text_from calls None ((es ++ joined b.before) ++ lead_of b); block = b.block; text = b.text }
 
--- The line break before its lines, the marks that begin them and each line break in them come from no call. What is on the page for them is the block's
--- source. So the block may begin or end with a call.
+-- The line break before its lines, the sign and marks that begin them and each line break in them come from no call. What is on the page for them is the block's
+-- source. So the block may begin or end with a call. Behind a sign its source begins with no `}`.
 pub record IsCallingHere (calls : List OuterCall) (b : LinedBlock) : Type 0 where
   pub before : last_of None (joined b.before) ≡ None
-  pub marks : AreOfPage b.marks
+  pub marks : AreOfPage (lead_of b)
   pub breaks : AllByRecursion (λ x. is_break_item x ≡ true → x ≡ break) (joined (b.first ∷ b.more))
   pub source : text_from calls None (content (joined (b.first ∷ b.more))) ≡ source_of b.block b.text
+  pub unclosed : IsApartFrom b.sign b.text
 
 abbrev pub AreCallingHere : List OuterCall → List LinedBlock → Type 0
 AreCallingHere calls [] = Unit {0}
 AreCallingHere calls (b ∷ bs) = IsCallingHere calls b × AreCallingHere calls bs
 
--- No call that is text has a byte of a block or of the marks that begin it, or goes over one of their ends, where so many bytes come before the first part.
+-- No call that is text has a byte of a block or of the sign and marks that begin its line, or goes over one of their ends, where so many bytes come before the first part.
 abbrev pub AreApartFrom : List OuterCall → List Span → ℕ → List Item → List LinedBlock → Type 0
 AreApartFrom calls texts at es [] = Unit {0}
 AreApartFrom calls texts at es (b ∷ bs) =
     let line = at + length (text_from calls None (es ++ joined b.before)) in
-    let end = (at + length (text_from calls None ((es ++ joined b.before) ++ b.marks))) + length (source_of b.block b.text) in
+    let end = (at + length (text_from calls None ((es ++ joined b.before) ++ lead_of b))) + length (source_of b.block b.text) in
     AreBeside line end texts × AreApartFrom calls texts end (ending (joined (b.first ∷ b.more))) bs
 
 -- ---- the page

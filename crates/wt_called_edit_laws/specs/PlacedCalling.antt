@@ -8,7 +8,7 @@ use Rattle.wt_commands.specs.Answers.{refusal_of_page}
 use Rattle.wt_text_edit_laws.specs.BlockSpots.{BlockSpot, spots_source}
 use Rattle.wt_text_edit_laws.specs.NoCalls.{NonePairs}
 use Rattle.wt_text_edit_laws.specs.PageCuts.{BeginsBreak, EndsThere}
-use Rattle.wt_text_edit_laws.specs.TextBetween.{AreEnded}
+use Rattle.wt_text_edit_laws.specs.SignParts.{IsLedTo}
 use Rattle.wt_text_edit_laws.specs.TextBlocks.{block_items}
 use Rattle.wt_called_edit_laws.specs.CallingBlocks.{AreContentsInFolder, spots_with_calls, items_past}
 use Rattle.wt_called_edit_laws.specs.Covered.{HaveFreeBytes}
@@ -26,15 +26,15 @@ pub record IsCutAt (s : BlockSpot) (zs : List Item) : Type 0 where
   pub is : zs ≡ before ++ (block_items s.block s.text ++ rest)
   pub source : sources before ≡ s.before
 
--- a block begins behind a line break, and behind it comments or tags, and it ends where its line ends
+-- A block begins behind a line break, and behind it comments or tags, a paragraph behind the sign of a table's end, too; and it ends where its line ends.
 abbrev pub AreFurtherCutsAt : List BlockSpot → List ℕ → List Item → Type 0
 AreFurtherCutsAt [] behind zs = EndsThere behind
-AreFurtherCutsAt (s ∷ ss) behind zs = (c : IsCutAt s zs) × AreEnded s.before × BeginsBreak s.before × AreFurtherCutsAt ss behind c.rest
+AreFurtherCutsAt (s ∷ ss) behind zs = (c : IsCutAt s zs) × IsLedTo s.before s.block s.text × BeginsBreak s.before × AreFurtherCutsAt ss behind c.rest
 
 -- The first may begin where the page begins. There is one at least.
 abbrev pub AreCutsAt : List BlockSpot → List ℕ → Type 0
 AreCutsAt [] behind = ⊥
-AreCutsAt (s ∷ ss) behind = (c : IsCutAt s (page_items (spots_source (s ∷ ss) behind))) × AreEnded s.before × AreFurtherCutsAt ss behind c.rest
+AreCutsAt (s ∷ ss) behind = (c : IsCutAt s (page_items (spots_source (s ∷ ss) behind))) × IsLedTo s.before s.block s.text × AreFurtherCutsAt ss behind c.rest
 
 -- ---- the page
 

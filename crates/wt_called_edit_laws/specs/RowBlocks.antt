@@ -17,16 +17,16 @@ use Rattle.wt_annotated.specs.Seams.{last_of, first_of, text_from}
 use Rattle.wt_annotated.specs.Walked.{clean_at, walked}
 use Rattle.wt_lines.specs.declared.kind.LineKind.TheVariants as line
 use Rattle.wt_lines.specs.Lines.{content, full_lines}
+use Rattle.wt_tables.specs.Extents.{behind as tables_after}
 use Rattle.wt_tables.specs.Parts.{joined}
 use Rattle.wt_page.specs.Body.{meaning}
 use Rattle.wt_page.specs.Headings.{heading}
 use Rattle.wt_page.specs.Lines.{kind_at}
-use Rattle.wt_page.specs.Rows.{Row, all_items, marks_len, whole_row, rows_from}
+use Rattle.wt_page.specs.Rows.{Row, all_items, marks_len, idle_len, dashes, is_unseen, behind_sign, whole_row, rows_from}
 use Rattle.wt_page.specs.Texts.{para}
 use Rattle.wt_part_laws.specs.Blocks.{AllAre, BeginOtherwise}
 use Rattle.wt_part_laws.specs.Rounds.{EndOtherwise}
-use Rattle.wt_part_laws.specs.Slots.{AllTrue}
-use Rattle.wt_text_edit_laws.specs.BodyParagraphs.{EndWhole}
+use Rattle.wt_part_laws.specs.Slots.{open_behind, AllTrue}
 use Rattle.wt_text_edit_laws.specs.ParagraphBetween.{written_rows, tables_behind, EndApart, BeginApart}
 use Rattle.wt_called_edit_laws.specs.AnyBlocks.{open_after}
 
@@ -99,8 +99,29 @@ text_row l = whole_row line.Text (marks_len l) l
 abbrev pub begins_at : List (List Item) → List Item → ℕ
 begins_at before l = opened_len (joined before) + opened_len (take (marks_len l) l)
 
+-- the `|}` of a table's end on its line, with the blanks and marks before it, and what is behind it
+abbrev pub end_sign : List Item → List Item
+end_sign l = take (idle_len l) l ++ take 2 (drop (idle_len l) l)
+
+abbrev pub past_end : List Item → List Item
+past_end l = behind_sign (idle_len l) 2 l
+
+-- so the `-` of a rule, with the marks before them
+abbrev pub rule_len : List Item → ℕ
+rule_len l = dashes (drop (marks_len l) l)
+
+abbrev pub rule_sign : List Item → List Item
+rule_sign l = take (marks_len l) l ++ take (rule_len l) (drop (marks_len l) l)
+
+abbrev pub past_rule : List Item → List Item
+past_rule l = behind_sign (marks_len l) (rule_len l) l
+
+-- where a text begins that these items are, with the marks that begin it, behind these lines and this sign
+abbrev pub begins_past : List (List Item) → List Item → List Item → ℕ
+begins_past before sign l = opened_len (joined before) + (opened_len sign + opened_len (take (marks_len l) l))
+
 -- A block is made of lines of text, with no other text beside them, or of a heading's line, and so many items are before it, with the marks that begin
--- its first line; or it begins on a line behind the `|}` of a table's end or the `-` of a rule, whose row isn't a line by itself.
+-- its first line; or it begins on a line behind the `|}` of a table's end or the `-` of a rule, where something is seen there.
 pub data IsOfLines (ls : List (List Item)) (at : ℕ) (block : ItemTree) : Type 0 where
   of_lines : (before : List (List Item)) (first : List Item) (others behind : List (List Item)) → ls ≡ before ++ ((first ∷ others) ++ behind)
       → AllTrue (open_after [] (written_rows 0 before)) → EndApart (written_rows 0 before) → AreOfText (tables_behind 0 before) (first ∷ others)
@@ -109,8 +130,16 @@ pub data IsOfLines (ls : List (List Item)) (at : ℕ) (block : ItemTree) : Type 
   of_line : (before : List (List Item)) (own : List Item) (behind : List (List Item)) → ls ≡ before ++ own ∷ behind
       → AllTrue (open_after [] (written_rows 0 before)) → kind_at (tables_behind 0 before) own ≡ line.Heading → at ≡ begins_at before own
       → block ≡ heading (content (drop (marks_len own) own)) → IsOfLines ls at block
-  behind_a_sign : (before : List Row) (first : Row) (others behind : List Row) → rows_from 0 ls ≡ before ++ ((first ∷ others) ++ behind)
-      → (EndWhole before → ⊥) → at ≡ begins_behind before first → block ≡ para (first ∷ others) → IsOfLines ls at block
+  behind_an_end : (before : List (List Item)) (own : List Item) (others behind : List (List Item)) → ls ≡ before ++ ((own ∷ others) ++ behind)
+      → kind_at (tables_behind 0 before) own ≡ line.TableEnd → is_unseen (past_end own) ≡ false
+      → AllTrue (open_behind (open_after [] (written_rows 0 before)) line.TableEnd) → AreOfText (tables_after (tables_behind 0 before) line.TableEnd) others
+      → BeginApart (rows_from (tables_after (tables_behind 0 before) line.TableEnd) behind) → at ≡ begins_past before (end_sign own) (past_end own)
+      → block ≡ para (map text_row (past_end own ∷ others)) → IsOfLines ls at block
+  behind_a_rule : (before : List (List Item)) (own : List Item) (others behind : List (List Item)) → ls ≡ before ++ ((own ∷ others) ++ behind)
+      → kind_at (tables_behind 0 before) own ≡ line.Rule → is_unseen (past_rule own) ≡ false
+      → AllTrue (open_after [] (written_rows 0 before)) → AreOfText (tables_behind 0 before) others
+      → BeginApart (rows_from (tables_behind 0 before) behind) → at ≡ begins_past before (rule_sign own) (past_rule own)
+      → block ≡ para (map text_row (past_rule own ∷ others)) → IsOfLines ls at block
 
 -- a node of a page's tree is such a block of the expanded page's lines
 pub record StandsOnLines (pages : Pages) (page : List ℕ) (t : Tree) : Type 0 where

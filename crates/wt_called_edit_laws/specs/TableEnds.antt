@@ -1,16 +1,21 @@
 -- What comes before a paragraph on the line of a table's end: lines, and the line of the end up to its `|}`.
-use Rattle.std.specs.Prelude.{◌≡◌, ◌≤◌, ℕ, true, false, List, [], ◌∷◌, ◌++◌, All}
+use Rattle.std.specs.Prelude.{◌≡◌, ◌≤◌, ◌||◌, ℕ, Bool, true, false, List, [], ◌∷◌, ◌++◌, All}
 use Rattle.wt_span.specs.Characters as byte
-use Rattle.wt_span.specs.Items.{Item, sign}
+use Rattle.wt_span.specs.Bytes.{is_blank}
+use Rattle.wt_span.specs.Items.{Item, is_char_in, is_mark, sign}
 use Rattle.wt_lines.specs.declared.kind.LineKind.TheVariants as line
-use Rattle.wt_lines.specs.Kinds.{is_idle, line_kind}
+use Rattle.wt_lines.specs.Kinds.{line_kind}
 use Rattle.wt_lines.specs.Lines.{is_break_item, empty_end, full_lines, lines}
 use Rattle.wt_text_edit_laws.specs.ParagraphBetween.{tables_behind}
 use Rattle.wt_text_edit_laws.specs.TextBlocks.{TextBlock, a_paragraph, a_heading}
 
+-- a blank or a mark
+abbrev pub is_idle_item : Item → Bool
+is_idle_item x = is_char_in is_blank x || is_mark x
+
 abbrev pub AreIdleItems : List Item → Type 0
 AreIdleItems [] = Unit {0}
-AreIdleItems (x ∷ xs) = (is_idle (sign x) ≡ true) × (is_break_item x ≡ false) × AreIdleItems xs
+AreIdleItems (x ∷ xs) = (is_idle_item x ≡ true) × (is_break_item x ≡ false) × AreIdleItems xs
 
 -- blanks and marks, or none, and behind them `|}`
 pub record IsEndSign (l : List Item) : Type 0 where

@@ -11,37 +11,38 @@ use Rattle.wt_part_laws.specs.Slots.{AllTrue}
 use Rattle.wt_tables.specs.Parts.{joined}
 use Rattle.wt_text_edit_laws.specs.NoCalls.{CallsNothing}
 use Rattle.wt_text_edit_laws.specs.PageCuts.{EndClosed}
-use Rattle.wt_text_edit_laws.specs.ParagraphBetween.{written_rows}
 use Rattle.wt_text_edit_laws.specs.Parts.{HasNoGroups}
 use Rattle.wt_text_edit_laws.specs.TextBlocks.{TextBlock, a_paragraph, a_heading}
 use Rattle.wt_called_edit_laws.specs.AnyBlocks.{open_after, EndsFor, NextApart}
 use Rattle.wt_called_edit_laws.specs.LinedHeadings.{sides_of, text_of, IsLinedHeading}
-use Rattle.wt_called_edit_laws.specs.PlacedBlocks.{AreLinesAt}
-use Rattle.wt_called_edit_laws.specs.PlacedLines.{LinedBlock, all_lines, spots_by, end_by, LinesApart}
+use Rattle.wt_called_edit_laws.specs.PlacedLines.{LinedBlock, front_rows, all_lines, spots_by, end_by, LinesApart}
 use Rattle.wt_called_edit_laws.specs.PlacedSpots.{AreShut}
+use Rattle.wt_called_edit_laws.specs.SignLines.{IsSignFor, IsApartFrom, AreLinesOn}
 
--- what the lines are, with those before them, and the marks that begin the first
+-- what the lines are, with those before them, and what begins the first: the sign of a table's end, or nothing, and marks
 pub data Told : Type 0 where
-  a_paragraph_of : List (List Item) → List Item → List Item → List (List Item) → Told
+  a_paragraph_of : List (List Item) → List Item → List Item → List Item → List (List Item) → Told
   a_heading_on : List (List Item) → List Item → List Item → Told
 
 -- as a block with its lines
 abbrev pub lined : Told → LinedBlock
-lined (a_paragraph_of before marks first more) =
-    record { before = before; marks = marks; block = a_paragraph; text = sources (content (joined (first ∷ more))); first = first; more = more }
+lined (a_paragraph_of before sign marks first more) =
+    record { before = before; sign = sign; marks = marks; block = a_paragraph; text = sources (content (joined (first ∷ more))); first = first; more = more }
 lined (a_heading_on before marks l) =
-    record { before = before; marks = marks; block = a_heading (sides_of (content l)); text = text_of (content l); first = l; more = [] }
+    record { before = before; sign = []; marks = marks; block = a_heading (sides_of (content l)); text = text_of (content l); first = l; more = [] }
 
 -- where so many tables are open
 abbrev pub OwnTold : Told → ℕ → Type 0
-OwnTold (a_paragraph_of before marks first more) n = AreLinesAt n (first ∷ more) × (marks_len (content (joined (first ∷ more))) ≡ 0)
+OwnTold (a_paragraph_of before sign marks first more) n = AreLinesOn sign n (first ∷ more) × (marks_len (content (joined (first ∷ more))) ≡ 0)
 OwnTold (a_heading_on before marks l) n = IsLinedHeading n l
 
 abbrev pub rows_before : List Bool → Told → List Row
-rows_before open_tables t = written_rows (length open_tables) (lined t).before
+rows_before open_tables t = front_rows (length open_tables) (lined t)
 
 -- as `IsLinedAt`
 pub record IsToldAt (open_tables : List Bool) (t : Told) : Type 0 where
+  pub sign : IsSignFor (lined t).block (length open_tables) (lined t).before (lined t).sign
+  pub unclosed : IsApartFrom (lined t).sign (lined t).text
   pub are_marks : list_all is_mark (lined t).marks ≡ true
   pub some : 1 ≤ length (lined t).first
   pub in_cells : AllTrue (open_after open_tables (rows_before open_tables t))

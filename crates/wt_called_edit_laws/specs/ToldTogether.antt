@@ -3,17 +3,18 @@ use Rattle.std.specs.Prelude.{◌≡◌, ◌⊎◌, ℕ, ◌+◌, List, [], ◌�
 use Rattle.wt_span.specs.Items.{Item}
 use Rattle.wt_tables.specs.Parts.{joined}
 use Rattle.wt_expand.specs.Work.{Pages}
+use Rattle.wt_called_edit_laws.specs.PlacedLines.{lead_of}
 use Rattle.wt_called_edit_laws.specs.RowBlocks.{opened_len}
 use Rattle.wt_called_edit_laws.specs.ToldAmong.{IsToldAmong}
 use Rattle.wt_called_edit_laws.specs.ToldLines.{Told, lined}
 
--- Where a block begins, behind the lines before it and the marks that begin its first line, if so many items are before these lines. So each of several
+-- Where a block begins, behind the lines before it and what begins its first line, if so many items are before these lines. So each of several
 -- that follow each other.
 abbrev pub start_of : ℕ → Told → ℕ
-start_of at t = at + opened_len (joined (lined t).before) + opened_len (lined t).marks
+start_of at t = at + opened_len (joined (lined t).before) + opened_len (lead_of (lined t))
 
 abbrev pub own_lines : Told → List (List Item)
-own_lines t = ((lined t).marks ++ (lined t).first) ∷ (lined t).more
+own_lines t = (lead_of (lined t) ++ (lined t).first) ∷ (lined t).more
 
 abbrev pub told_starts : ℕ → List Told → List ℕ
 told_starts at [] = []

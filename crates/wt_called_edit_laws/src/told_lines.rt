@@ -26,7 +26,7 @@ ghost use Rattle.wt_beside_laws.specs.StyledIn.{IsStyledIn};
 ghost use Rattle.wt_called_edit_laws.specs.AllTold.{AllBlocksTold, IsExcepted, IsExceptedAt};
 ghost use Rattle.wt_called_edit_laws.specs.CalledPages.{IsCalledPage};
 ghost use Rattle.wt_called_edit_laws.specs.CallingTogether.{EachEditable, TakeThere};
-ghost use Rattle.wt_called_edit_laws.specs.CallingTold.{IsOnLines, IsExceptedByLines, IsNoBreakOfCall, IsExceptedCalling};
+ghost use Rattle.wt_called_edit_laws.specs.CallingTold.{IsOnLines, IsExceptedByLines, IsNoBreakOfCall, IsExceptedSigned, IsExceptedCalling};
 ghost use Rattle.wt_called_edit_laws.specs.EditsAt.{IsStanding, AllStand};
 ghost use Rattle.wt_called_edit_laws.specs.Groups.{called_tree};
 ghost use Rattle.wt_called_edit_laws.specs.LinedAmong.{IsLinedAmong};
@@ -80,8 +80,8 @@ pub fn untangled_blocks_are_shut()
 {}
 
 /// Each paragraph and each heading of a page's tree, wherever it is outside of groups, is made of the rows of the expanded page:
-/// of text with no other text beside it, or of a heading's; and it begins where these do. So it is made of whole lines, or it
-/// begins behind the sign of a table's end or a rule.
+/// of text with no other text beside it, or of a heading's; and it begins where these do. So it is made of whole lines, or its
+/// first line begins with the sign of a table's end or a rule.
 pub fn each_block_stands_on_lines()
     ensures rows { (pages : Pages) (page p : List ℕ) (t : Tree) → IsUtf8 page → refusal_of_page pages page ≡ None
         → IsReachedAt p (called_tree pages page) t → IsTextBlock (label t).kind → StandsOnRows pages page t }
@@ -95,22 +95,23 @@ pub fn told_blocks_are_told_together()
 {}
 
 /// So each paragraph and heading of such a page's tree that is outside of groups, holds none and isn't tangled, and holds no mark
-/// that nothing ends, may be edited at its path, which is one of those of blocks that the lines tell; but for these: text behind
-/// the sign of a table's end or a rule on its line; a block for which a call gives the line break behind it, or which is directly
-/// behind a call, if it begins with a `}` or the call has a `<` on its last line that no `>` follows (`beside_a_call`); one in which
+/// that nothing ends, may be edited at its path, which is one of those of blocks that the lines tell; but for these: text on
+/// the line of a rule, or text that begins with `}` behind a table's end; a block for which a call gives the line break behind it,
+/// or which is directly behind a call, if it begins with a `}` or the call has a `<` on its last line that no `>` follows (`beside_a_call`); one in which
 /// a function is kept (`holds_a_function`); and the others of `IsExceptedIn`.
 pub fn each_block_is_told_or_excepted()
     ensures all { (pages : Pages) (page : List ℕ) → IsUtf8 page → refusal_of_page pages page ≡ None → AllBlocksTold pages page }
 {}
 
 /// On a page that calls nothing no block is excepted for a call, a function or braces: those that aren't told there are as
-/// `IsExceptedAt` names them. So it is with blocks that may hold calls, where no call gives a line break or a mark.
+/// `IsExceptedAt` names them. So it is with blocks that may hold calls, where no call gives a line break or a mark, by
+/// `IsExceptedSigned`.
 pub fn calls_except_no_block_where_there_are_none()
     ensures calm { (pages : Pages) (page : List ℕ) (t : Tree) → CallsNothing (page_items page) → IsExcepted pages page t
         → (s : StandsIn pages page t) × IsExceptedAt (full_lines (expanded_page pages page).items) (opened_len s.before) }
     ensures words { (pages : Pages) (page : List ℕ) (t : Tree)
         → AllByRecursion IsNoBreakOfCall (expanded_page pages page).items → IsExceptedCalling pages page t
-        → (s : StandsIn pages page t) × IsExceptedAt (full_lines (expanded_page pages page).items) (opened_len s.before) }
+        → (s : StandsIn pages page t) × IsExceptedSigned (full_lines (expanded_page pages page).items) (opened_len s.before) }
 {}
 
 /// Each paragraph and each heading of a page's tree that is outside of groups, with calls in it or without, is on

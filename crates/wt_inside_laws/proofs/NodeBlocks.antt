@@ -19,6 +19,7 @@ use Rattle.wt_text_edit_laws.proofs.Blocks.Untangled.{flat_same}
 use Rattle.wt_called_edit_laws.specs.BlockNodes.{IsOfNodes}
 use Rattle.wt_called_edit_laws.specs.CalledContents.{tree_round}
 use Rattle.wt_called_edit_laws.specs.CalledEdits.{FitsRound, page_things}
+use Rattle.wt_called_edit_laws.specs.CallingBlocks.{IsContentIn}
 use Rattle.wt_called_edit_laws.specs.Settled.{settled}
 use Rattle.wt_called_edit_laws.proofs.Beside.Making.{IsSettledIn, block_kind}
 use Rattle.wt_called_edit_laws.proofs.SettledNodes.{settled_gone}
@@ -33,6 +34,15 @@ use Rattle.wt_inside_laws.proofs.NodeNumbers.{nodes_numbered}
 settled_source : (n at : ℕ) (t : Tree) → flat (settled n at t) ≡ flat t
 settled_source n at t = sym (flat_same (settled n at t)) ∙ ap flat (settled_gone n at t) ∙ flat_same t
 
+no_heading : (n : ℕ) → kind.Para ≡ kind.Heading n → ⊥
+no_heading n e = cc
+
+-- how a heading is read between its `=` is known of each block of a page
+round_of : (pages : Pages) (k : TextBlock) (q : List ℕ) (t : Tree) → (label t).kind ≡ kind_of (block_of k) → IsContentIn pages k q → IsNodeBlock pages t
+    → FitsRound pages k q (page_things t)
+round_of pages a_paragraph q t e c h = tt
+round_of pages (a_heading s) q t e c h = (c.read, h.seen (λ p. no_heading s.level (sym p ∙ e)))
+
 pub nodes_take_texts : (pages : Pages) (page : List ℕ) (p : Pair) → IsRetyped same_node (expanded_page pages page) page p → IsNodeBlock pages p.old
     → IsBesideBlock pages page p
 nodes_take_texts pages page p r h =
@@ -44,14 +54,8 @@ nodes_take_texts pages page p r h =
     let source : source_of k q ≡ flat p.old = sym b.source ∙ sym (settled_source b.settled.number b.settled.at v) ∙ ap flat (sym b.settled.is) in
     let shut : any_ends_open (children_of p.old) ≡ false =
     ap (λ (ts : Trees). any_ends_open ts) (same_nodes p.old) ∙ tree_shut e page p.old r.untangled in
-    inr (inr (nodes_beside pages k q p.old i source (nodes_numbered same_node e page p r) shut h.nodes (h.round k q (block_kind pages k q p.old i) source)))
-
-no_heading : (n : ℕ) → kind.Para ≡ kind.Heading n → ⊥
-no_heading n e = cc
+    let round : FitsRound pages k q (page_things p.old) = round_of pages k q p.old (block_kind pages k q p.old i) b.content h in
+    inr (inr (nodes_beside pages k q p.old i source (nodes_numbered same_node e page p r) shut h.nodes round))
 
 pub paragraph_of_nodes : (pages : Pages) (t : Tree) → (label t).kind ≡ kind.Para → IsOfNodes pages t → IsNodeBlock pages t
-paragraph_of_nodes pages t e h = record { nodes = h; round = λ k q own source. by k q own }
-  where
-    by : (k : TextBlock) (q : List ℕ) → (label t).kind ≡ kind_of (block_of k) → FitsRound pages k q (page_things t)
-    by a_paragraph q own = tt
-    by (a_heading s) q own = absurd (no_heading s.level (sym e ∙ own))
+paragraph_of_nodes pages t e h = record { nodes = h; seen = λ n. absurd (n e) }

@@ -38,7 +38,7 @@ use Rattle.wt_context.specs.Chunks.{chunks}
 use Rattle.wt_context.specs.Styled.{with_styles}
 use Rattle.wt_context.specs.Nodes.{segments}
 use Rattle.wt_context.specs.Line.{context_parts, line_trees}
-use Rattle.wt_page.specs.Rows.{rows, rows_from}
+use Rattle.wt_page.specs.Rows.{rows}
 use Rattle.wt_page.specs.Texts.{para}
 use Rattle.wt_page.specs.Body.{blocks, meaning}
 use Rattle.wt_call_data.specs.CallData.{call_part, param_by, trimmed as trimmed_data}
@@ -73,8 +73,7 @@ use Rattle.wt_text_edit_laws.specs.ParagraphParts.{joined_parts, para_with}
 use Rattle.wt_text_edit_laws.specs.TextBlocks.{a_paragraph}
 use Rattle.wt_beside_laws.proofs.Groups.Cases.{a_word}
 use Rattle.wt_called_edit_laws.specs.CallingTold.{IsNoBreakOfCall, IsExceptedCalling}
-use Rattle.wt_called_edit_laws.proofs.AllTold.CalmCalls.{words_excepted}
-use Rattle.wt_called_edit_laws.proofs.AllTold.EndCases.{AllWhole, none_excepted_at}
+use Rattle.wt_called_edit_laws.proofs.AllTold.CalmCalls.{AreUnsigned, none_signed_at, words_excepted}
 use Rattle.wt_called_edit_laws.specs.PiecedParagraphs.{IsTextAndCalls}
 use Rattle.wt_called_edit_laws.specs.SentAsIs.{as_sent}
 use Rattle.wt_called_edit_laws.specs.Settled.{settled}
@@ -124,15 +123,15 @@ no_breaks =
       ),
     )
 
-one_row : AllWhole (rows_from 0 (full_lines expanded.items))
+one_line : AreUnsigned 0 (full_lines expanded.items)
 unfolding kind_of_signs
-one_row = tt
+one_line = (((λ z u. absurd (cc)), (λ z u. absurd (cc))), tt)
 
-rows_whole : AllWhole (rows_from 0 (full_lines (expanded_page a_word source).items))
-rows_whole = subst (λ (e : Expanded). AllWhole (rows_from 0 (full_lines e.items))) (sym expanded_is) one_row
+none_signed : AreUnsigned 0 (full_lines (expanded_page a_word source).items)
+none_signed = subst (λ (e : Expanded). AreUnsigned 0 (full_lines e.items)) (sym expanded_is) one_line
 
 unexcepted : (t : Tree) → IsExceptedCalling a_word source t → ⊥
-unexcepted t x = let r = words_excepted a_word source t no_breaks x in none_excepted_at (full_lines (expanded_page a_word source).items) _ rows_whole r.1
+unexcepted t x = let r = words_excepted a_word source t no_breaks x in none_signed_at (full_lines (expanded_page a_word source).items) _ none_signed r.1
 
 -- ---- its tree, and what is sent
 

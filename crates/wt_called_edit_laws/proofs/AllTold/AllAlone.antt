@@ -14,6 +14,7 @@ use Rattle.wt_called_edit_laws.specs.AnyBlocks.{open_after}
 use Rattle.wt_called_edit_laws.specs.Covered.{NoGroupAt}
 use Rattle.wt_called_edit_laws.specs.Groups.{called_tree}
 use Rattle.wt_called_edit_laws.specs.LinedAmong.{AreBeside}
+use Rattle.wt_called_edit_laws.specs.PlacedLines.{lead_of}
 use Rattle.wt_called_edit_laws.specs.ToldAmong.{IsToldAmong}
 use Rattle.wt_called_edit_laws.specs.ToldLines.{Told, lined, rows_before, IsToldAt}
 use Rattle.wt_called_edit_laws.specs.ToldTogether.{AreAllTold}
@@ -26,7 +27,7 @@ use Rattle.wt_called_edit_laws.proofs.AllTold.Together.{AreAllChosen, chosen_tog
 
 alone_of : (pages : Pages) (page : List ℕ) (t : Told) (rest : Lines) → IsToldAmong pages page (t ∷ []) rest → IsAloneTold pages page t rest
 alone_of pages page t rest h =
-    let n : ℕ = length (text_from (expanded_page pages page).outer None (joined (lined t).before ++ (lined t).marks)) in
+    let n : ℕ = length (text_from (expanded_page pages page).outer None (joined (lined t).before ++ lead_of (lined t))) in
     let z : 0 + n ≡ n = omega arith in
     let at : IsToldAt [] t = h.told.0 in
     record {
@@ -49,7 +50,7 @@ chosen_of pages page t rest h =
     let q : List ℕ = (lined t).text in
     let alone : IsAloneTold pages page t rest = alone_of pages page t rest h in
     let here : IsAloneHere pages page t rest = alone_here pages page t rest alone in
-    let n : ℕ = length (text_from (expanded_page pages page).outer None (joined (lined t).before ++ (lined t).marks)) in
+    let n : ℕ = length (text_from (expanded_page pages page).outer None (joined (lined t).before ++ lead_of (lined t))) in
     let z : 0 + n ≡ n = omega arith in
     let r : IsAloneRead pages page t = alone_read pages page t rest alone here (λ a e. h.free.0) in
     record {
@@ -64,7 +65,7 @@ chosen_of pages page t rest h =
 
 pub all_alone : (pages : Pages) (page : List ℕ) → IsUtf8 page → refusal_of_page pages page ≡ None → AreAllTold pages page
 all_alone pages page u r =
-    let a : AreAllChosen pages page = chosen_together pages page in
+    let a : AreAllChosen pages page = chosen_together pages page u r in
     record {
       ts = a.ts;
       behind = a.behind;

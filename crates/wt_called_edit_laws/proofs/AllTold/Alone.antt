@@ -17,14 +17,13 @@ use Rattle.wt_text_edit_laws.specs.BlockSpots.{BlockSpot, spots_source}
 use Rattle.wt_text_edit_laws.specs.Contents.{IsContentOf, IsContent}
 use Rattle.wt_text_edit_laws.specs.NoCalls.{CallsNothing}
 use Rattle.wt_text_edit_laws.specs.PageCuts.{IsSpotCut, EndsThere, EndsClosed, EndClosed, IsFreeBlock}
-use Rattle.wt_text_edit_laws.specs.ParagraphBetween.{written_rows}
 use Rattle.wt_text_edit_laws.specs.TextBlocks.{TextBlock, source_of, block_items}
 use Rattle.wt_text_edit_laws.proofs.Cuts.TextLines.{joined_is, runs_behind}
 use Rattle.wt_beside_laws.proofs.Derived.BlockContents.{ReadAlone, BlockRead, block_content}
 use Rattle.wt_beside_laws.proofs.Derived.CutPages.{SpotRead, spot_read}
 use Rattle.wt_called_edit_laws.specs.AnyBlocks.{open_after}
 use Rattle.wt_called_edit_laws.specs.LinedAmong.{spots_of_lines, end_of_lines, AreBeside, AreOwnLines, AreUntouched}
-use Rattle.wt_called_edit_laws.specs.PlacedLines.{LinedBlock, all_lines, IsLinedAt}
+use Rattle.wt_called_edit_laws.specs.PlacedLines.{LinedBlock, all_lines, IsLinedAt, lead_of, front_rows}
 use Rattle.wt_called_edit_laws.specs.ToldLines.{Told, lined, rows_before, AreTold}
 use Rattle.wt_called_edit_laws.proofs.Among.BlockAt.{calls_of, IsRest, text_to}
 use Rattle.wt_called_edit_laws.proofs.Among.LinedParts.{IsLinedHere, lined_here, block_front, ends_text, spot_of, spot_source, page_rest}
@@ -50,7 +49,7 @@ pub beside_line : (pages : Pages) (page : List ℕ) (o : Told) (rest : Lines) �
     → AreBeside (text_to pages page 0 (block_front [] (lined o))) (text_to pages page 0 (block_front [] (lined o)) + length (sources (own_items (lined o))))
     (expanded_page pages page).text_calls
 beside_line pages page o rest h =
-    let n : ℕ = length (text_from (calls_of pages page) None (joined (lined o).before ++ (lined o).marks)) in
+    let n : ℕ = length (text_from (calls_of pages page) None (joined (lined o).before ++ lead_of (lined o))) in
     let z : n ≡ 0 + n = omega arith in
     subst (λ (m : ℕ). AreBeside m (m + length (sources (own_items (lined o)))) (expanded_page pages page).text_calls) z h.place.beside
 
@@ -66,13 +65,13 @@ alone_untouched pages page o rest h = (beside_line pages page o rest h, tt)
 pub record IsAloneHere (pages : Pages) (page : List ℕ) (o : Told) (rest : Lines) : Type 0 where
   pub at : IsLinedAt [] (lined o)
   pub here : IsLinedHere pages page [] [] (lined o) rest 0 (page_items page)
-  pub runs : AreRuns goes_on ((((lined o).marks ++ (lined o).first) ∷ (lined o).more) ++ rest)
-      (joined ((((lined o).marks ++ (lined o).first) ∷ (lined o).more) ++ rest))
+  pub runs : AreRuns goes_on (((lead_of (lined o) ++ (lined o).first) ∷ (lined o).more) ++ rest)
+      (joined (((lead_of (lined o) ++ (lined o).first) ∷ (lined o).more) ++ rest))
 
 pub alone_here : (pages : Pages) (page : List ℕ) (o : Told) (rest : Lines) → IsAloneTold pages page o rest → IsAloneHere pages page o rest
 alone_here pages page o rest h =
     let b : LinedBlock = lined o in
-    let ks : Lines = (b.marks ++ b.first) ∷ b.more in
+    let ks : Lines = (lead_of b ++ b.first) ∷ b.more in
     let lines : Lines = b.before ++ (ks ++ rest) in
     let xs : List Item = (expanded_page pages page).items in
     let runs : AreRuns goes_on lines xs = subst (λ (ms : Lines). AreRuns goes_on ms xs) h.are (runs_are goes_on xs) in
@@ -97,7 +96,7 @@ own_round pages page o rest h is own_is =
     record {
       items = items;
       are = items_by b.block b.text is;
-      stays = stay_so b.block (length (open_after [] (written_rows 0 b.before))) (page_items b.text) (content (own_items b)) items h.here.stays;
+      stays = stay_so b.sign b.block (length (open_after [] (front_rows 0 b))) (page_items b.text) (content (own_items b)) items h.here.stays;
       round = h.here.around;
       runs = h.runs;
     }

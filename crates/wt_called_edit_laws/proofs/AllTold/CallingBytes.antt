@@ -18,7 +18,6 @@ use Rattle.wt_page_round_trip.proofs.OpenedPages.{AreOnes}
 use Rattle.wt_tables.specs.Parts.{joined}
 use Rattle.wt_part_laws.specs.Frames.{content as content_part}
 use Rattle.wt_text_edit_laws.specs.BlockSpots.{BlockSpot, spots_source}
-use Rattle.wt_text_edit_laws.specs.ParagraphBetween.{written_rows}
 use Rattle.wt_text_edit_laws.specs.ParagraphParts.{break}
 use Rattle.wt_text_edit_laws.specs.TextBlocks.{TextBlock, source_of}
 use Rattle.wt_called_edit_laws.specs.AllTold.{starts_in, IsOneOf}
@@ -34,7 +33,7 @@ use Rattle.wt_called_edit_laws.specs.LinedAmong.{spots_on, spots_of_lines, end_o
 use Rattle.wt_called_edit_laws.specs.LinedCalling.{AreCallingHere, AreCallingAfter, AreCallingLined, IsLinedCalling}
 use Rattle.wt_called_edit_laws.specs.PartTexts.{HaveOwnSources}
 use Rattle.wt_called_edit_laws.specs.PathsTo.{paths_to}
-use Rattle.wt_called_edit_laws.specs.PlacedLines.{LinedBlock, all_lines}
+use Rattle.wt_called_edit_laws.specs.PlacedLines.{LinedBlock, all_lines, lead_of, front_rows}
 use Rattle.wt_called_edit_laws.specs.RowBlocks.{StandsOnRows}
 use Rattle.wt_called_edit_laws.specs.SettledAt.{AllSettled}
 use Rattle.wt_called_edit_laws.specs.ToldTogether.{IsAmongNumbers}
@@ -63,7 +62,7 @@ use Rattle.wt_called_edit_laws.proofs.AllTold.Starts.{BlockIn, same_paths}
 abbrev pub block_starts : ℕ → List LinedBlock → List ℕ
 block_starts at [] = []
 block_starts at (b ∷ bs) =
-    (at + size (joined b.before) + size b.marks) ∷ block_starts (at + size (joined b.before) + size (joined ((b.marks ++ b.first) ∷ b.more))) bs
+    (at + size (joined b.before) + size (lead_of b)) ∷ block_starts (at + size (joined b.before) + size (joined ((lead_of b ++ b.first) ∷ b.more))) bs
 
 -- nothing is before them, or a line break of the page's own
 abbrev pub Seam : List Item → List Item → List LinedBlock → Type 0
@@ -101,7 +100,7 @@ AreFirst (b ∷ bs) = (1 ≤ length b.first) × AreFirst bs
 pub next_seam : (b : LinedBlock) (bs : List LinedBlock) (behind : Lines) (fr : List Item) → Round b (all_lines bs behind) → Seam fr (ending (own_items b)) bs
 next_seam b [] behind fr r = tt
 next_seam b (c ∷ bs) behind fr r =
-    let s = some_lines c.before (c.marks ++ c.first) (c.more ++ all_lines bs behind) in inr (r.ends s.0 s.1 s.2)
+    let s = some_lines c.before (lead_of c ++ c.first) (c.more ++ all_lines bs behind) in inr (r.ends s.0 s.1 s.2)
 
 starts_behind : (pages : Pages) (page : List ℕ) (all front fr es : List Item) (at : ℕ) (bs : List LinedBlock) (behind : Lines) (xs : List Item) → front ≡ fr ++ es
     → at ≡ length (text_from (expanded_page pages page).outer None fr) → Seam fr es bs → AreCallingHere (expanded_page pages page).outer bs → AreFirst bs
@@ -111,25 +110,25 @@ starts_behind pages page all front fr es at [] behind xs f z s h some runs e one
 starts_behind pages page all front fr es at (b ∷ bs) behind xs f z s h some runs e ones =
     let calls : List OuterCall = (expanded_page pages page).outer in
     let own : List Item = own_items b in
-    let line : List Item = joined b.before ++ b.marks in
+    let line : List Item = joined b.before ++ lead_of b in
     let tail : Lines = all_lines bs behind in
     let here : List Item = front ++ line in
     let r : Round b tail = round b tail xs some.0 runs h.0.breaks in
     let whole : all ≡ here ++ (own ++ joined tail) =
     e ∙ ap (λ (zs : List Item). front ++ zs) (lines_joined b tail) ∙ sym (append_assoc front line (own ++ joined tail)) in
-    let line_size : size line ≡ size (joined b.before) + size b.marks = size_both (joined b.before) b.marks in
+    let line_size : size line ≡ size (joined b.before) + size (lead_of b) = size_both (joined b.before) (lead_of b) in
     let here_size : size here ≡ size front + size line = size_both front line in
-    let first : size front + size (joined b.before) + size b.marks ≡ size here = omega (arith, line_size, here_size) in
+    let first : size front + size (joined b.before) + size (lead_of b) ≡ size here = omega (arith, line_size, here_size) in
     let parts : here ≡ fr ++ (es ++ line) = ap (λ (zs : List Item). zs ++ line) f ∙ append_assoc fr es line in
-    let spot : List ℕ = text_from calls None ((es ++ joined b.before) ++ b.marks) in
-    let same_spot : text_from calls None (es ++ line) ≡ spot = ap (text_from calls None) (sym (append_assoc es (joined b.before) b.marks)) in
+    let spot : List ℕ = text_from calls None ((es ++ joined b.before) ++ lead_of b) in
+    let same_spot : text_from calls None (es ++ line) ≡ spot = ap (text_from calls None) (sym (append_assoc es (joined b.before) (lead_of b))) in
     let text_is : length (text_from calls None here) ≡ at + length spot =
     omega (arith, ap (λ (zs : List Item). length (text_from calls None zs)) parts, seam_text calls fr es line s, z, ap length same_spot) in
-    let first_byte : byte_at calls all (size front + size (joined b.before) + size b.marks) ≡ at + length spot =
+    let first_byte : byte_at calls all (size front + size (joined b.before) + size (lead_of b)) ≡ at + length spot =
     ap (byte_at calls all) first ∙ byte_of calls here (own ++ joined tail) all whole ones ∙ text_is in
     let last : last_of None here ≡ None =
-    last_append None front line ∙ ap (λ (o : Option ℕ). last_of o line) (ap (last_of None) f ∙ seam_last fr es s) ∙ last_append None (joined b.before) b.marks
-    ∙ ap (λ (o : Option ℕ). last_of o b.marks) h.0.before ∙ own_last b.marks (from_page b.marks h.0.marks) in
+    last_append None front line ∙ ap (λ (o : Option ℕ). last_of o line) (ap (last_of None) f ∙ seam_last fr es s) ∙ last_append None (joined b.before) (lead_of b)
+    ∙ ap (λ (o : Option ℕ). last_of o (lead_of b)) h.0.before ∙ own_last (lead_of b) (from_page (lead_of b) h.0.marks) in
     let mine : List Item = content own in
     let next : List Item = here ++ mine in
     let source : length (text_from calls None mine) ≡ length (source_of b.block b.text) = ap length h.0.source in
@@ -137,9 +136,9 @@ starts_behind pages page all front fr es at (b ∷ bs) behind xs f z s h some ru
     omega (arith, text_size calls None here mine, ap (λ (o : Option ℕ). length (text_from calls o mine)) last, source, text_is) in
     let front_is : here ++ own ≡ next ++ ending own =
     ap (λ (zs : List Item). here ++ zs) (sym (content_ending own)) ∙ sym (append_assoc here mine (ending own)) in
-    let own_lines : joined ((b.marks ++ b.first) ∷ b.more) ≡ b.marks ++ own = append_assoc b.marks b.first (joined b.more) in
-    let later : size front + size (joined b.before) + size (joined ((b.marks ++ b.first) ∷ b.more)) ≡ size (here ++ own) =
-    omega (arith, ap size own_lines, size_both b.marks own, size_both here own, line_size, here_size) in
+    let own_lines : joined ((lead_of b ++ b.first) ∷ b.more) ≡ lead_of b ++ own = append_assoc (lead_of b) b.first (joined b.more) in
+    let later : size front + size (joined b.before) + size (joined ((lead_of b ++ b.first) ∷ b.more)) ≡ size (here ++ own) =
+    omega (arith, ap size own_lines, size_both (lead_of b) own, size_both here own, line_size, here_size) in
     let rest =
     starts_behind pages page all (here ++ own) next (ending own) ((at + length spot) + length (source_of b.block b.text)) bs behind
     (joined tail) front_is (sym past) (next_seam b bs behind next r) h.1 some.1 r.tail_runs (whole ∙ sym (append_assoc here own (joined tail))) ones in
@@ -147,11 +146,11 @@ starts_behind pages page all front fr es at (b ∷ bs) behind xs f z s h some ru
 
 first_after : (last : TextBlock) (open_tables : List Bool) (bs : List LinedBlock) (behind : Lines) → AreCallingAfter last open_tables bs behind → AreFirst bs
 first_after last open_tables [] behind h = tt
-first_after last open_tables (b ∷ bs) behind h = (h.1.some, first_after b.block (open_after open_tables (written_rows (length open_tables) b.before)) bs behind h.2)
+first_after last open_tables (b ∷ bs) behind h = (h.1.some, first_after b.block (open_after open_tables (front_rows (length open_tables) b)) bs behind h.2)
 
 pub all_first : (bs : List LinedBlock) (behind : Lines) → AreCallingLined bs behind → AreFirst bs
 all_first [] behind h = absurd h
-all_first (b ∷ bs) behind h = (h.0.some, first_after b.block (open_after [] (written_rows 0 b.before)) bs behind h.1)
+all_first (b ∷ bs) behind h = (h.0.some, first_after b.block (open_after [] (front_rows 0 b)) bs behind h.1)
 
 -- ---- the paths lead there
 

@@ -25,7 +25,7 @@ use Rattle.wt_called_edit_laws.specs.Groups.{called_tree}
 use Rattle.wt_called_edit_laws.specs.LinedAmong.{spots_of_lines, end_of_lines}
 use Rattle.wt_called_edit_laws.specs.LinedCalling.{IsLinedCalling}
 use Rattle.wt_called_edit_laws.specs.PathsTo.{paths_to}
-use Rattle.wt_called_edit_laws.specs.PlacedLines.{LinedBlock}
+use Rattle.wt_called_edit_laws.specs.PlacedLines.{LinedBlock, lead_of}
 use Rattle.wt_called_edit_laws.specs.RowBlocks.{IsReachedIn, StandsOnRows}
 use Rattle.wt_called_edit_laws.specs.SettledAt.{IsSettledAt, SettledTo, SettledAmong, AllSettled}
 use Rattle.wt_called_edit_laws.proofs.Among.BlockAt.{read_some}
@@ -111,7 +111,7 @@ one_path Q v k ((j ∷ js) ∷ []) b (tree l ts) at i is s z e h n c st each min
 -- where a node begins at its byte
 pub taken_there : (pages : Pages) (page : List ℕ) (b : LinedBlock) (behind : List (List Item)) (i : ℕ) (is : List ℕ) (t : Tree) → IsLinedCalling pages page (b ∷ []) behind
     → IsReachedIn i is (children (called_tree pages page)) t → BlockIn i is (children (called_tree pages page))
-    → starts_in 0 i is (children (called_tree pages page)) ≡ length (text_from (expanded_page pages page).outer None (joined b.before ++ b.marks))
+    → starts_in 0 i is (children (called_tree pages page)) ≡ length (text_from (expanded_page pages page).outer None (joined b.before ++ lead_of b))
     → TakesThere pages page (i ∷ is) b behind
 taken_there pages page b behind i is t h there mine begins =
     let ss : List BlockSpot = spots_of_lines pages page (b ∷ []) in
@@ -122,7 +122,7 @@ taken_there pages page b behind i is t h there mine begins =
     let u : Tree = called_tree pages page in
     let v : Tree = spots_tree pages ss end in
     let tree_is : u ≡ v = ap (called_tree pages) (sym same) in
-    let at : ℕ = length (text_from (expanded_page pages page).outer None (joined b.before ++ b.marks)) in
+    let at : ℕ = length (text_from (expanded_page pages page).outer None (joined b.before ++ lead_of b)) in
     let zero_before : 0 + at ≡ at = omega arith in
     let blocks : ℕ → Tree = block_with_groups pages ss end in
     let own : Tree = blocks 0 in

@@ -29,7 +29,8 @@ use Rattle.wt_called_edit_laws.specs.EditableNodes.{IsEditable}
 use Rattle.wt_called_edit_laws.specs.Groups.{called_tree}
 use Rattle.wt_called_edit_laws.specs.LinedAmong.{spots_on, AreBeside}
 use Rattle.wt_called_edit_laws.specs.LinedCalling.{AreCallingHere, AreApartFrom, IsLinedCalling}
-use Rattle.wt_called_edit_laws.specs.PlacedLines.{LinedBlock, all_lines}
+use Rattle.wt_called_edit_laws.specs.PlacedLines.{LinedBlock, lead_of, all_lines}
+use Rattle.wt_called_edit_laws.specs.SignLines.{IsApartFrom}
 use Rattle.wt_called_edit_laws.specs.ToldLines.{Told, a_paragraph_of, a_heading_on, lined, AreToldAfter, rows_before}
 use Rattle.wt_called_edit_laws.specs.ToldTogether.{AreSome, own_lines, start_of, told_starts, IsAmongNumbers}
 use Rattle.wt_called_edit_laws.proofs.Among.OwnItems.{from_page}
@@ -39,6 +40,7 @@ use Rattle.wt_called_edit_laws.proofs.AllTold.BlockBytes.{block_byte}
 use Rattle.wt_called_edit_laws.proofs.AllTold.CallingBytes.{Seam, seam_text, next_seam, AreFirst, TakenAt, taken_at, calling_bytes}
 use Rattle.wt_called_edit_laws.proofs.AllTold.ChosenLines.{byte_at, byte_of, among_mapped, last_suffix, lines_of_own, rest_is}
 use Rattle.wt_called_edit_laws.proofs.AllTold.Complete.{block_in}
+use Rattle.wt_called_edit_laws.proofs.AllTold.EndSigns.{page_signs}
 use Rattle.wt_called_edit_laws.proofs.AllTold.Found.{size}
 use Rattle.wt_called_edit_laws.proofs.AllTold.KnownLines.{IsKnownHere, KnownTold, KnownNode, known_node}
 use Rattle.wt_called_edit_laws.proofs.AllTold.LineKinds.{Lines}
@@ -87,39 +89,45 @@ of_both (a_heading s) (a_heading z) (a_heading y) e f = tt
 
 -- a block behind these items, of which all is known that is asked
 record FoundHere (pages : Pages) (page : List ℕ) (front : List Item) (t : Told) : Type 0 where
+  unsigned : (lined t).sign ≡ []
   block : TextBlock
   text : List ℕ
   kind : IsOfKind (lined t).block block
-  known : IsKnownHere pages page front (lined t).marks (own_items (lined t)) block text
+  known : IsKnownHere pages page front (lead_of (lined t)) (own_items (lined t)) block text
+
+no_items : (xs : List Item) → length xs ≡ 0 → xs ≡ []
+no_items [] e = refl
+no_items (x ∷ xs) e = absurd (omega (arith, e))
 
 found_among : (pages : Pages) (page : List ℕ) (ks : List (KnownTold pages page)) (front : List Item) (t : Told) (tail : List Item)
-    → (expanded_page pages page).items ≡ (front ++ (lined t).marks) ++ (own_items (lined t) ++ tail) → cut_among (tolds ks) front t → FoundHere pages page front t
+    → (expanded_page pages page).items ≡ (front ++ lead_of (lined t)) ++ (own_items (lined t) ++ tail) → cut_among (tolds ks) front t → FoundHere pages page front t
 found_among pages page [] front t tail e h = absurd h
 found_among pages page (x ∷ xs) front t tail e (inr h) = found_among pages page xs front t tail e h
 found_among pages page (x ∷ xs) front t tail e (inl c) =
     let b : LinedBlock = lined t in
     let o : LinedBlock = lined x.told in
-    let whole : (expanded_page pages page).items ≡ (joined o.before ++ o.marks) ++ (own_items o ++ joined x.rest) = line_whole pages page o x.rest x.are in
-    let s : AreSameItems front b.marks (own_items b) (joined o.before) o.marks (own_items o) =
-    same_items (expanded_page pages page).items front b.marks (own_items b) tail (joined o.before) o.marks (own_items o) (joined x.rest) e whole c.before c.marks c.own in
+    let whole : (expanded_page pages page).items ≡ (joined o.before ++ lead_of o) ++ (own_items o ++ joined x.rest) = line_whole pages page o x.rest x.are in
+    let s : AreSameItems front (lead_of b) (own_items b) (joined o.before) (lead_of o) (own_items o) =
+    same_items (expanded_page pages page).items front (lead_of b) (own_items b) tail (joined o.before) (lead_of o) (own_items o) (joined x.rest) e whole c.before c.marks c.own in
     record {
+      unsigned = no_items b.sign c.unsigned;
       block = x.block;
       text = x.text;
       kind = of_both b.block o.block x.block c.kind x.kind;
-      known = subst (λ (zs : List Item). IsKnownHere pages page zs b.marks (own_items b) x.block x.text) (sym s.before)
+      known = subst (λ (zs : List Item). IsKnownHere pages page zs (lead_of b) (own_items b) x.block x.text) (sym s.before)
           (subst (λ (zs : List Item). IsKnownHere pages page (joined o.before) zs (own_items b) x.block x.text) (sym s.marks)
-          (subst (λ (zs : List Item). IsKnownHere pages page (joined o.before) o.marks zs x.block x.text) (sym s.lines) x.known));
+          (subst (λ (zs : List Item). IsKnownHere pages page (joined o.before) (lead_of o) zs x.block x.text) (sym s.lines) x.known));
     }
 
 found_so : (pages : Pages) (page : List ℕ) (ks : List (KnownTold pages page)) (front : List Item) (t : Told) (tail : List Item)
-    → (expanded_page pages page).items ≡ (front ++ (lined t).marks) ++ (own_items (lined t) ++ tail) → cut_among (tolds ks) front (without_before t)
+    → (expanded_page pages page).items ≡ (front ++ lead_of (lined t)) ++ (own_items (lined t) ++ tail) → cut_among (tolds ks) front (without_before t)
     → FoundHere pages page front t
-found_so pages page ks front (a_paragraph_of b m f r) tail e h =
-    let c : FoundHere pages page front (a_paragraph_of [] m f r) = found_among pages page ks front (a_paragraph_of [] m f r) tail e h in
-    record { block = c.block; text = c.text; kind = c.kind; known = c.known }
+found_so pages page ks front (a_paragraph_of b s m f r) tail e h =
+    let c : FoundHere pages page front (a_paragraph_of [] s m f r) = found_among pages page ks front (a_paragraph_of [] s m f r) tail e h in
+    record { unsigned = c.unsigned; block = c.block; text = c.text; kind = c.kind; known = c.known }
 found_so pages page ks front (a_heading_on b m l) tail e h =
     let c : FoundHere pages page front (a_heading_on [] m l) = found_among pages page ks front (a_heading_on [] m l) tail e h in
-    record { block = c.block; text = c.text; kind = c.kind; known = c.known }
+    record { unsigned = c.unsigned; block = c.block; text = c.text; kind = c.kind; known = c.known }
 
 -- ---- all that are found
 
@@ -152,29 +160,29 @@ joined_from pages page ks front fr es at (t ∷ ts) behind xs f z s h some runs 
     let w : FoundHere pages page here t = found_so pages page ks here t (joined tail) parts.0 h.0 in
     let r : Round c tail = round c tail xs some.0 runs w.known.breaks in
     let to_here : here ≡ fr ++ (es ++ j) = here_is ∙ ap (λ (zs : List Item). zs ++ j) f ∙ append_assoc fr es j in
-    let to_block : here ++ c.marks ≡ fr ++ (es ++ (j ++ c.marks)) =
-    ap (λ (zs : List Item). zs ++ c.marks) to_here ∙ append_assoc fr (es ++ j) c.marks ∙ ap (λ (zs : List Item). fr ++ zs) (append_assoc es j c.marks) in
-    let spot : List ℕ = text_from calls None ((es ++ j) ++ c.marks) in
-    let same_spot : text_from calls None (es ++ (j ++ c.marks)) ≡ spot = ap (text_from calls None) (sym (append_assoc es j c.marks)) in
+    let to_block : here ++ lead_of c ≡ fr ++ (es ++ (j ++ lead_of c)) =
+    ap (λ (zs : List Item). zs ++ lead_of c) to_here ∙ append_assoc fr (es ++ j) (lead_of c) ∙ ap (λ (zs : List Item). fr ++ zs) (append_assoc es j (lead_of c)) in
+    let spot : List ℕ = text_from calls None ((es ++ j) ++ lead_of c) in
+    let same_spot : text_from calls None (es ++ (j ++ lead_of c)) ≡ spot = ap (text_from calls None) (sym (append_assoc es j (lead_of c))) in
     let line_at : length (text_from calls None here) ≡ at + length (text_from calls None (es ++ j)) =
     omega (arith, ap (λ (zs : List Item). length (text_from calls None zs)) to_here, seam_text calls fr es j s, z) in
-    let block_at : length (text_from calls None (here ++ c.marks)) ≡ at + length spot =
-    omega (arith, ap (λ (zs : List Item). length (text_from calls None zs)) to_block, seam_text calls fr es (j ++ c.marks) s, z, ap length same_spot) in
+    let block_at : length (text_from calls None (here ++ lead_of c)) ≡ at + length spot =
+    omega (arith, ap (λ (zs : List Item). length (text_from calls None zs)) to_block, seam_text calls fr es (j ++ lead_of c) s, z, ap length same_spot) in
     let size_is : ℕ = length (source_of w.block w.text) in
     let end : ℕ = (at + length spot) + size_is in
-    let last : last_of None (here ++ c.marks) ≡ None =
-    last_append None here c.marks ∙ ap (λ (o : Option ℕ). last_of o c.marks) w.known.ends ∙ own_last c.marks (from_page c.marks w.known.own_marks) in
-    let next : List Item = (here ++ c.marks) ++ cs in
+    let last : last_of None (here ++ lead_of c) ≡ None =
+    last_append None here (lead_of c) ∙ ap (λ (o : Option ℕ). last_of o (lead_of c)) w.known.ends ∙ own_last (lead_of c) (from_page (lead_of c) w.known.own_marks) in
+    let next : List Item = (here ++ lead_of c) ++ cs in
     let past : end ≡ length (text_from calls None next) =
-    omega (arith, text_size calls None (here ++ c.marks) cs, ap (λ (o : Option ℕ). length (text_from calls o cs)) last, ap length w.known.source, block_at) in
+    omega (arith, text_size calls None (here ++ lead_of c) cs, ap (λ (o : Option ℕ). length (text_from calls o cs)) last, ap length w.known.source, block_at) in
     let front_is : behind_lines here (own_lines t) ≡ next ++ ending own =
-    behind_joined here (own_lines t) ∙ ap (λ (zs : List Item). here ++ zs) (lines_of_own t) ∙ sym (append_assoc here (c.marks ++ cs) (ending own))
-    ∙ ap (λ (zs : List Item). zs ++ ending own) (sym (append_assoc here c.marks cs)) in
+    behind_joined here (own_lines t) ∙ ap (λ (zs : List Item). here ++ zs) (lines_of_own t) ∙ sym (append_assoc here (lead_of c ++ cs) (ending own))
+    ∙ ap (λ (zs : List Item). zs ++ ending own) (sym (append_assoc here (lead_of c) cs)) in
     let rest : AreJoined pages page end (ending own) ts =
     joined_from pages page ks (behind_lines here (own_lines t)) next (ending own) end ts behind (joined tail) front_is past (next_seam c (map lined ts) behind next r) h.1
     some.1 r.tail_runs parts.1 in
     record {
-      bs = as_block c.before c.marks c.first c.more w.block w.text ∷ rest.bs;
+      bs = as_block c.before c.sign c.marks c.first c.more w.block w.text ∷ rest.bs;
       on = (record { is = refl; kind = w.kind }, rest.on);
       here = (
         record {
@@ -182,6 +190,7 @@ joined_from pages page ks front fr es at (t ∷ ts) behind xs f z s h some runs 
           marks = w.known.own_marks;
           breaks = w.known.breaks;
           source = w.known.source;
+          unclosed = subst (λ (zs : List Item). IsApartFrom zs w.text) (sym w.unsigned) tt;
         },
         rest.here,
       );
@@ -208,8 +217,8 @@ lines_same [] [] behind o = refl
 lines_same [] (b ∷ bs) behind o = absurd o
 lines_same (t ∷ ts) [] behind o = absurd o
 lines_same (t ∷ ts) (b ∷ bs) behind o =
-    ap (λ (ls : Lines). (lined t).before ++ ((((lined t).marks ++ (lined t).first) ∷ (lined t).more) ++ ls)) (lines_same ts bs behind o.1)
-    ∙ ap (λ (c : LinedBlock). c.before ++ (((c.marks ++ c.first) ∷ c.more) ++ all_lines bs behind)) (sym o.0.is)
+    ap (λ (ls : Lines). (lined t).before ++ (((lead_of (lined t) ++ (lined t).first) ∷ (lined t).more) ++ ls)) (lines_same ts bs behind o.1)
+    ∙ ap (λ (c : LinedBlock). c.before ++ (((lead_of c ++ c.first) ∷ c.more) ++ all_lines bs behind)) (sym o.0.is)
 
 -- ---- each line has a first item
 
@@ -255,7 +264,7 @@ found_node pages page (i ∷ is) t u r h =
       block = h.block;
       byte = block_byte pages page (i ∷ is) t u r h.reached h.block;
     } in
-    let at : size n.stands.before ≡ size (joined b.before) + size b.marks = line_count pages page t n ∙ line_size b in
+    let at : size n.stands.before ≡ size (joined b.before) + size (lead_of b) = line_count pages page t n ∙ line_size b in
     let count : start_of 0 n.told ≡ size (line_front b) = omega (arith, line_size b) in
     let byte : page_byte pages page (start_of 0 n.told) ≡ starts_in 0 i is (children (called_tree pages page)) =
     ap (page_byte pages page) count ∙ byte_of calls (line_front b) (line_more b n.rest) items (line_whole pages page b n.rest n.are) (page_ones pages page u r)
@@ -270,7 +279,7 @@ found_node pages page (i ∷ is) t u r h =
       found = λ os sc m.
           subst (λ (x : ℕ). IsAmongNumbers x (map (page_byte pages page) (told_starts 0 sc.ts))) byte
           (among_mapped (page_byte pages page) (start_of 0 n.told) (told_starts 0 sc.ts)
-          (n.found os sc (meets_among n.told os (subst (λ (o : Told). IsIn o os) k.is m))));
+          (n.found os sc (meets_among n.told os n.unsigned (subst (λ (o : Told). IsIn o os) k.is m))));
     }
 
 -- all of them
@@ -332,7 +341,7 @@ lines_together pages page ps u r some each =
     let h : FoundNodes pages page ps = found_nodes pages page ps u r each in
     let ks : List (KnownTold pages page) = node_lines_of pages page ps h in
     let os : List Told = tolds ks in
-    let sc : ScanFor pages page os = scan (cut_among os) (among_decided os) (length ls) [] [] false ls (omega arith) in
+    let sc : ScanFor pages page os = scan (cut_among os) (among_decided os) (length ls) [] [] false ls (omega arith) (page_signs pages page u r) in
     let runs : AreRuns goes_on (all_lines (map lined sc.ts) sc.behind) items = subst (λ (zs : Lines). AreRuns goes_on zs items) sc.are (runs_are goes_on items) in
     let j : AreJoined pages page 0 [] sc.ts =
     joined_from pages page ks [] [] [] 0 sc.ts sc.behind items refl refl (page_seam sc.ts) sc.asked (told_first sc.ts sc.behind sc.told) runs

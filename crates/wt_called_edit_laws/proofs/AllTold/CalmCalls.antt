@@ -10,18 +10,46 @@ use Rattle.wt_tree.specs.Tree.{Tree}
 use Rattle.wt_annotated.specs.Seams.{last_of}
 use Rattle.wt_expand.specs.PageCalls.{expanded_page}
 use Rattle.wt_expand.specs.Work.{Pages}
+use Rattle.wt_lines.specs.declared.kind.LineKind.TheVariants as line
 use Rattle.wt_lines.specs.Lines.{goes_on, empty_end, full_lines, is_break_item}
+use Rattle.wt_page.specs.Lines.{kind_at}
+use Rattle.wt_page.specs.Rows.{is_unseen}
+use Rattle.wt_tables.specs.Extents.{behind as tables_after}
 use Rattle.wt_tables.specs.Parts.{joined}
+use Rattle.wt_text_edit_laws.specs.ParagraphBetween.{tables_behind}
 use Rattle.wt_text_edit_laws.specs.ParagraphParts.{break}
+use Rattle.wt_called_edit_laws.specs.AllTold.{text_on_a_rule, a_brace_on_an_end}
 use Rattle.wt_text_edit_laws.proofs.Cuts.TextLines.{whole_before}
-use Rattle.wt_called_edit_laws.specs.AllTold.{IsExceptedAt}
-use Rattle.wt_called_edit_laws.specs.CallingTold.{IsBesideOwn, IsNoBreakOfCall, IsExceptedWithCalls, on_a_sign, broken_by_a_call, IsExceptedCalling}
+use Rattle.wt_called_edit_laws.specs.CallingTold.{IsExceptedSigned, untold, text_on_an_end, IsBesideOwn, IsNoBreakOfCall, IsExceptedWithCalls, on_a_sign, broken_by_a_call, IsExceptedCalling}
 use Rattle.wt_called_edit_laws.specs.LinedAmong.{IsNoFunction, AreOfPage}
-use Rattle.wt_called_edit_laws.specs.PlacedLines.{LinedBlock, all_lines}
-use Rattle.wt_called_edit_laws.specs.RowBlocks.{opened_len, StandsIn}
+use Rattle.wt_called_edit_laws.specs.PlacedLines.{LinedBlock, lead_of, all_lines}
+use Rattle.wt_called_edit_laws.specs.RowBlocks.{opened_len, StandsIn, past_end, past_rule}
 use Rattle.wt_called_edit_laws.specs.ToldLines.{Told, lined, AreTold}
 use Rattle.wt_called_edit_laws.proofs.Cells.PlacedLines.{own_items}
 use Rattle.wt_called_edit_laws.proofs.AllTold.OnLines.{line_front, line_whole}
+
+-- ---- lines on which no text is behind a sign
+
+abbrev pub IsUnsigned : ℕ → List Item → Type 0
+IsUnsigned n l =
+    (kind_at n l ≡ line.Rule → is_unseen (past_rule l) ≡ false → ⊥) × (kind_at n l ≡ line.TableEnd → is_unseen (past_end l) ≡ false → ⊥)
+
+abbrev pub AreUnsigned : ℕ → List (List Item) → Type 0
+AreUnsigned n [] = Unit {0}
+AreUnsigned n (l ∷ ls) = IsUnsigned n l × AreUnsigned (tables_after n (kind_at n l)) ls
+
+unsigned_at : (n : ℕ) (before : List (List Item)) (l : List Item) (ls : List (List Item)) → AreUnsigned n (before ++ l ∷ ls) → IsUnsigned (tables_behind n before) l
+unsigned_at n [] l ls h = h.0
+unsigned_at n (k ∷ before) l ls h = unsigned_at (tables_after n (kind_at n k)) before l ls h.1
+
+pub none_signed_at : (ls : List (List Item)) (at : ℕ) → AreUnsigned 0 ls → IsExceptedSigned ls at → ⊥
+none_signed_at ls at h (untold (text_on_a_rule before own after are k seen e)) = (unsigned_at 0 before own after (subst (AreUnsigned 0) are h)).0 k seen
+none_signed_at ls at h (untold (a_brace_on_an_end before own others after are k seen f e)) =
+    (unsigned_at 0 before own (others ++ after) (subst (AreUnsigned 0) are h)).1 k seen
+none_signed_at ls at h (text_on_an_end before own others after are k seen e) =
+    (unsigned_at 0 before own (others ++ after) (subst (AreUnsigned 0) are h)).1 k seen
+
+-- ---- what no call gives
 
 front_none : (xs ys : List Item) → AllByRecursion IsNoBreakOfCall (xs ++ ys) → AllByRecursion IsNoBreakOfCall xs
 front_none [] ys h = tt
@@ -68,28 +96,29 @@ ends_none (x ∷ []) h e = by (is_break_item x) refl
 ends_none (x ∷ y ∷ ys) h e = ends_none (y ∷ ys) h.1 e
 
 pub beside_own : (pages : Pages) (page : List ℕ) (t : Told) (behind : List (List Item)) → AllByRecursion IsNoBreakOfCall (expanded_page pages page).items
-    → full_lines (expanded_page pages page).items ≡ all_lines (lined t ∷ []) behind → AreTold (t ∷ []) behind → IsBesideOwn (joined (lined t).before) t
-beside_own pages page t behind h are told =
+    → full_lines (expanded_page pages page).items ≡ all_lines (lined t ∷ []) behind → AreTold (t ∷ []) behind → (lined t).sign ≡ [] → IsBesideOwn (joined (lined t).before) t
+beside_own pages page t behind h are told unsigned =
     let items : List Item = (expanded_page pages page).items in
     let b : LinedBlock = lined t in
+    let lead : lead_of b ≡ b.marks = ap (λ (xs : List Item). xs ++ b.marks) unsigned in
     let whole : items ≡ line_front b ++ (own_items b ++ joined behind) = line_whole pages page b behind are in
     let all : AllByRecursion IsNoBreakOfCall (line_front b ++ (own_items b ++ joined behind)) = subst (AllByRecursion IsNoBreakOfCall) whole h in
     let first : AllByRecursion IsNoBreakOfCall (line_front b) = front_none (line_front b) (own_items b ++ joined behind) all in
     let later : AllByRecursion IsNoBreakOfCall (own_items b ++ joined behind) = behind_none (line_front b) (own_items b ++ joined behind) all in
     let runs : AreRuns goes_on (all_lines (b ∷ []) behind) items = subst (λ (ks : List (List Item)). AreRuns goes_on ks items) are (runs_are goes_on items) in
     record {
-      ends = ends_none (joined b.before) (front_none (joined b.before) b.marks first) (whole_before b.before (b.marks ++ b.first) (b.more ++ behind) items runs);
-      marks = marks_own b.marks (behind_none (joined b.before) b.marks first) told.0.are_marks;
+      ends = ends_none (joined b.before) (front_none (joined b.before) (lead_of b) first) (whole_before b.before (lead_of b ++ b.first) (b.more ++ behind) items runs);
+      marks = marks_own b.marks (subst (AllByRecursion IsNoBreakOfCall) lead (behind_none (joined b.before) (lead_of b) first)) told.0.are_marks;
       breaks = breaks_own (own_items b) (front_none (own_items b) (joined behind) later);
     }
 
 pub words_excepted : (pages : Pages) (page : List ℕ) (t : Tree) → AllByRecursion IsNoBreakOfCall (expanded_page pages page).items → IsExceptedCalling pages page t
-    → (s : StandsIn pages page t) × IsExceptedAt (full_lines (expanded_page pages page).items) (opened_len s.before)
+    → (s : StandsIn pages page t) × IsExceptedSigned (full_lines (expanded_page pages page).items) (opened_len s.before)
 words_excepted pages page t h x = (x.stands, by x.begins_so)
   where
     e : Expanded
     e = expanded_page pages page
 
-    by : IsExceptedWithCalls e (opened_len x.stands.before) → IsExceptedAt (full_lines e.items) (opened_len x.stands.before)
+    by : IsExceptedWithCalls e (opened_len x.stands.before) → IsExceptedSigned (full_lines e.items) (opened_len x.stands.before)
     by (on_a_sign l) = l
-    by (broken_by_a_call o behind are told at f) = absurd (f (beside_own pages page o behind h are told))
+    by (broken_by_a_call o behind are told at unsigned f) = absurd (f (beside_own pages page o behind h are told unsigned))

@@ -1,5 +1,5 @@
 -- On a page that calls nothing no block is excepted for a call.
-use Rattle.std.proofs.Common.{◌≡◌, inl, ℕ, ◌+◌, None, List, [], ◌∷◌, ◌++◌, length, sym, ap, ◌∙◌, subst}
+use Rattle.std.proofs.Common.{◌≡◌, ℕ, ◌+◌, None, List, [], ◌∷◌, ◌++◌, length, sym, ap, ◌∙◌, subst}
 use Rattle.wt_span.specs.Items.{Item, sources}
 use Rattle.wt_span.specs.Origins.{Expanded, Span}
 use Rattle.wt_span.specs.Runs.{AreRuns}
@@ -14,18 +14,18 @@ use Rattle.wt_page.proofs.Ends.{content_ending}
 use Rattle.wt_tables.specs.Parts.{joined}
 use Rattle.wt_text_edit_laws.specs.LonePages.{of_items}
 use Rattle.wt_text_edit_laws.specs.NoCalls.{CallsNothing}
-use Rattle.wt_text_edit_laws.specs.TextBetween.{AreEnded}
+use Rattle.wt_text_edit_laws.specs.SignParts.{IsLedTo}
 use Rattle.wt_text_edit_laws.proofs.Between.NoCalls.{calm_expanded}
 use Rattle.wt_text_edit_laws.proofs.Cuts.TextLines.{joined_is}
 use Rattle.wt_called_edit_laws.specs.AllTold.{IsBesideNoCall, AreNoFunctions, IsBesideTexts, IsExceptedAt, IsExceptedIn, by_its_lines, beside_a_call, holds_a_function, IsExcepted}
 use Rattle.wt_called_edit_laws.specs.LinedAmong.{AreOfPage, AreBeside, AreOwnLines}
-use Rattle.wt_called_edit_laws.specs.PlacedLines.{LinedBlock, all_lines}
+use Rattle.wt_called_edit_laws.specs.PlacedLines.{LinedBlock, all_lines, lead_of}
 use Rattle.wt_called_edit_laws.specs.RowBlocks.{opened_len, StandsIn}
 use Rattle.wt_called_edit_laws.specs.ToldLines.{Told, lined, AreTold}
 use Rattle.wt_called_edit_laws.proofs.Among.CalmLines.{page_of, page_runs, own_all}
 use Rattle.wt_called_edit_laws.proofs.Among.LinedParts.{of_behind, of_front}
 use Rattle.wt_called_edit_laws.proofs.Among.OwnItems.{from_page}
-use Rattle.wt_called_edit_laws.proofs.Cells.PlacedLines.{own_items, lines_joined, page_ended}
+use Rattle.wt_called_edit_laws.proofs.Cells.PlacedLines.{own_items, lines_joined, page_led}
 use Rattle.wt_called_edit_laws.proofs.PartTexts.{own_text}
 
 no_functions : (xs : List Item) → AreOfPage xs → AreNoFunctions xs
@@ -51,13 +51,14 @@ calm_lines pages page t behind c are told =
     let own : AreOwnLines (b ∷ []) =
     own_all [] (b ∷ []) behind xs runs (subst AreOfPage all (page_of page)) (subst CallsNothing all c) (told.0.some, tt) in
     let parts : AreOfPage (content (own_items b) ++ ending (own_items b)) = subst AreOfPage (sym (content_ending (own_items b))) own.0 in
-    let front : List Item = joined b.before ++ b.marks in
+    let front : List Item = joined b.before ++ lead_of b in
     let before : AreOfPage front = of_front front (own_items b ++ joined behind) (subst AreOfPage (all ∙ lines_joined b behind) (page_of page)) in
     let before_is : text_from e.outer None front ≡ sources front = own_text e.outer None front (from_page front before) in
     let from : ℕ = length (text_from e.outer None front) in
     record {
       beside = record {
-        led = inl (subst AreEnded (sym before_is) (page_ended page b behind runs told.0.some told.0.are_marks));
+        led = subst (λ (bs : List ℕ). IsLedTo bs b.block b.text) (sym before_is)
+            (page_led page 0 b behind runs told.0.sign told.0.unclosed told.0.are_marks told.0.some);
         ending = of_behind (content (own_items b)) (ending (own_items b)) parts;
       };
       functions = no_functions (content (own_items b)) (of_front (content (own_items b)) (ending (own_items b)) parts);

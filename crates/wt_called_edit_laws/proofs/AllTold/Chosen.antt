@@ -36,6 +36,7 @@ use Rattle.wt_called_edit_laws.specs.AllTold.{IsBesideNoCall, AreNoFunctions, Is
 use Rattle.wt_called_edit_laws.specs.Covered.{IsBeside, IfGroup, NoGroupAt, NoneGroupAt}
 use Rattle.wt_called_edit_laws.specs.Groups.{called_tree}
 use Rattle.wt_called_edit_laws.specs.LinedAmong.{IsNoFunction, AreOfPage, AreBeside}
+use Rattle.wt_called_edit_laws.specs.PlacedLines.{lead_of}
 use Rattle.wt_called_edit_laws.specs.ToldLines.{Told, lined}
 use Rattle.wt_called_edit_laws.proofs.AllTold.ClosedLines.{closed_decided}
 use Rattle.wt_called_edit_laws.proofs.AllTold.Scans.{Decided, Asked, Answered, both_decided, three_decided, bool_decided}
@@ -49,7 +50,7 @@ pub record IsOwnBehind (e : Expanded) (front : List Item) (t : Told) : Type 0 wh
   pub own : AreOfPage (joined ((lined t).first ∷ (lined t).more))
   pub some : 1 ≤ length (content (joined ((lined t).first ∷ (lined t).more)))
   pub calm : CallsNothing (content (joined ((lined t).first ∷ (lined t).more)))
-  pub led : IsLedTo (text_from e.outer None (front ++ (lined t).marks)) (lined t).block (lined t).text
+  pub led : IsLedTo (text_from e.outer None (front ++ lead_of (lined t))) (lined t).block (lined t).text
   pub beside : IsBesideTexts e front t
 
 -- no node in it is empty, and by itself it isn't tangled
@@ -65,7 +66,7 @@ free_of k q h = record {
 -- Behind these items its lines are the page's own, no group has its first byte, and a line break behind it is read as one.
 pub record IsChosen (pages : Pages) (page : List ℕ) (front : List Item) (t : Told) : Type 0 where
   pub place : IsOwnBehind (expanded_page pages page) front t
-  pub outside : NoGroupAt (length (text_from (expanded_page pages page).outer None (front ++ (lined t).marks))) (called_tree pages page)
+  pub outside : NoGroupAt (length (text_from (expanded_page pages page).outer None (front ++ lead_of (lined t)))) (called_tree pages page)
   pub free : IsFreeAlone (lined t).block (lined t).text
   pub closed : EndsClosed (source_of (lined t).block (lined t).text) []
 
@@ -144,7 +145,7 @@ beside_decided from to (s ∷ ss) =
 
 pub texts_decided : (e : Expanded) (front : List Item) (t : Told) → Decided (IsBesideTexts e front t)
 texts_decided e front t =
-    let from : ℕ = length (text_from e.outer None (front ++ (lined t).marks)) in
+    let from : ℕ = length (text_from e.outer None (front ++ lead_of (lined t))) in
     beside_decided from (from + length (sources (joined ((lined t).first ∷ (lined t).more)))) e.text_calls
 
 pub functions_decided : (xs : List Item) → Decided (AreNoFunctions xs)
@@ -179,9 +180,9 @@ led_decided bs k q =
 
 pub beside_call_decided : (e : Expanded) (front : List Item) (t : Told) → Decided (IsBesideNoCall e front t)
 beside_call_decided e front t =
-    by (led_decided (text_from e.outer None (front ++ (lined t).marks)) (lined t).block (lined t).text) (own_decided (ending (joined ((lined t).first ∷ (lined t).more))))
+    by (led_decided (text_from e.outer None (front ++ lead_of (lined t))) (lined t).block (lined t).text) (own_decided (ending (joined ((lined t).first ∷ (lined t).more))))
   where
-    by : Decided (IsLedTo (text_from e.outer None (front ++ (lined t).marks)) (lined t).block (lined t).text)
+    by : Decided (IsLedTo (text_from e.outer None (front ++ lead_of (lined t))) (lined t).block (lined t).text)
         → Decided (AreOfPage (ending (joined ((lined t).first ∷ (lined t).more)))) → Decided (IsBesideNoCall e front t)
     by (inl a) (inl b) = inl (record { led = a; ending = b })
     by (inr f) b = inr (λ h. f h.led)
@@ -215,11 +216,11 @@ place_decided : (e : Expanded) (front : List Item) (t : Told) → Decided (IsOwn
 place_decided e front t =
     let own : List Item = joined ((lined t).first ∷ (lined t).more) in
     by (own_decided own) (most_decided 1 (length (content own))) (pairs_decided (braces (map sign (content own))))
-    (led_decided (text_from e.outer None (front ++ (lined t).marks)) (lined t).block (lined t).text) (texts_decided e front t)
+    (led_decided (text_from e.outer None (front ++ lead_of (lined t))) (lined t).block (lined t).text) (texts_decided e front t)
   where
     by : Decided (AreOfPage (joined ((lined t).first ∷ (lined t).more))) → Decided (1 ≤ length (content (joined ((lined t).first ∷ (lined t).more))))
         → Decided (CallsNothing (content (joined ((lined t).first ∷ (lined t).more))))
-        → Decided (IsLedTo (text_from e.outer None (front ++ (lined t).marks)) (lined t).block (lined t).text) → Decided (IsBesideTexts e front t)
+        → Decided (IsLedTo (text_from e.outer None (front ++ lead_of (lined t))) (lined t).block (lined t).text) → Decided (IsBesideTexts e front t)
         → Decided (IsOwnBehind e front t)
     by (inl a) (inl b) (inl c) (inl d) (inl g) = inl (record { own = a; some = b; calm = c; led = d; beside = g })
     by (inr f) b c d g = inr (λ h. f h.own)
@@ -269,11 +270,11 @@ free_decided k q =
 pub chosen_decided : (pages : Pages) (page : List ℕ) → Answered (chosen pages page)
 chosen_decided pages page front t =
     by (place_decided (expanded_page pages page) front t)
-    (at_decided (length (text_from (expanded_page pages page).outer None (front ++ (lined t).marks))) (called_tree pages page)) (free_decided (lined t).block (lined t).text)
+    (at_decided (length (text_from (expanded_page pages page).outer None (front ++ lead_of (lined t)))) (called_tree pages page)) (free_decided (lined t).block (lined t).text)
     (closed_decided (source_of (lined t).block (lined t).text))
   where
     by : Decided (IsOwnBehind (expanded_page pages page) front t)
-        → Decided (NoGroupAt (length (text_from (expanded_page pages page).outer None (front ++ (lined t).marks))) (called_tree pages page))
+        → Decided (NoGroupAt (length (text_from (expanded_page pages page).outer None (front ++ lead_of (lined t)))) (called_tree pages page))
         → Decided (IsFreeAlone (lined t).block (lined t).text) → Decided (EndsClosed (source_of (lined t).block (lined t).text) [])
         → Decided (IsChosen pages page front t)
     by (inl a) (inl b) (inl c) (inl d) = inl (record { place = a; outside = b; free = c; closed = d })

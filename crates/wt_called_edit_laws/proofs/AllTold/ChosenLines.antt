@@ -22,7 +22,7 @@ use Rattle.wt_text_edit_laws.proofs.Blocks.SignedParts.{led_rest}
 use Rattle.wt_called_edit_laws.specs.Covered.{NoGroupAt, AreInNoGroup}
 use Rattle.wt_called_edit_laws.specs.Groups.{called_tree}
 use Rattle.wt_called_edit_laws.specs.LinedAmong.{spots_on, end_on, AreOfPage, AreBeside, AreOwnLines, AreLed, AreUntouched}
-use Rattle.wt_called_edit_laws.specs.PlacedLines.{LinedBlock, all_lines}
+use Rattle.wt_called_edit_laws.specs.PlacedLines.{LinedBlock, all_lines, lead_of}
 use Rattle.wt_called_edit_laws.specs.ToldLines.{Told, a_paragraph_of, a_heading_on, lined}
 use Rattle.wt_called_edit_laws.specs.ToldTogether.{start_of, own_lines, told_starts, IsAmongNumbers}
 use Rattle.wt_called_edit_laws.proofs.Among.LinedParts.{of_front}
@@ -41,7 +41,7 @@ use Rattle.wt_called_edit_laws.proofs.AllTold.ToldStarts.{AreOwn}
 -- ---- what is asked doesn't hang on the lines before a block
 
 place_so : (pages : Pages) (page : List ℕ) (front : List Item) (t : Told) → IsChosen pages page front (without_before t) → IsChosen pages page front t
-place_so pages page front (a_paragraph_of b m f r) h = record {
+place_so pages page front (a_paragraph_of b s m f r) h = record {
   place = record { own = h.place.own; some = h.place.some; calm = h.place.calm; led = h.place.led; beside = h.place.beside };
   outside = h.outside;
   free = h.free;
@@ -55,7 +55,7 @@ place_so pages page front (a_heading_on b m l) h = record {
 }
 
 so_placed : (pages : Pages) (page : List ℕ) (front : List Item) (t : Told) → IsChosen pages page front t → IsChosen pages page front (without_before t)
-so_placed pages page front (a_paragraph_of b m f r) h = record {
+so_placed pages page front (a_paragraph_of b s m f r) h = record {
   place = record { own = h.place.own; some = h.place.some; calm = h.place.calm; led = h.place.led; beside = h.place.beside };
   outside = h.outside;
   free = h.free;
@@ -100,28 +100,28 @@ front_of front t = behind_joined front (lined t).before
 
 -- what is on the page before a block, behind what is before it
 block_text : (calls : List OuterCall) (front fr es : List Item) (at : ℕ) (t : Told) → Behind calls front fr es at
-    → text_from calls None (behind_lines front (lined t).before ++ (lined t).marks)
-    ≡ text_from calls None fr ++ text_from calls None ((es ++ joined (lined t).before) ++ (lined t).marks)
+    → text_from calls None (behind_lines front (lined t).before ++ lead_of (lined t))
+    ≡ text_from calls None fr ++ text_from calls None ((es ++ joined (lined t).before) ++ lead_of (lined t))
 block_text calls front fr es at t b =
     let j : List Item = joined (lined t).before in
-    let m : List Item = (lined t).marks in
+    let m : List Item = lead_of (lined t) in
     let here : behind_lines front (lined t).before ≡ fr ++ (es ++ j) = front_of front t ∙ ap (λ (zs : List Item). zs ++ j) b.whole ∙ append_assoc fr es j in
     ap (λ (zs : List Item). text_from calls None (zs ++ m)) here ∙ ap (text_from calls None) (append_assoc fr (es ++ j) m) ∙ text_behind calls fr ((es ++ j) ++ m) b.ends
 
 -- where a block begins
 spot_byte : (calls : List OuterCall) (front fr es : List Item) (at : ℕ) (t : Told) → Behind calls front fr es at
-    → at + length (text_from calls None ((es ++ joined (lined t).before) ++ (lined t).marks))
-    ≡ length (text_from calls None (behind_lines front (lined t).before ++ (lined t).marks))
+    → at + length (text_from calls None ((es ++ joined (lined t).before) ++ lead_of (lined t)))
+    ≡ length (text_from calls None (behind_lines front (lined t).before ++ lead_of (lined t)))
 spot_byte calls front fr es at t b =
-    let own : List ℕ = text_from calls None ((es ++ joined (lined t).before) ++ (lined t).marks) in
+    let own : List ℕ = text_from calls None ((es ++ joined (lined t).before) ++ lead_of (lined t)) in
     omega (arith, b.byte, ap length (block_text calls front fr es at t b), length-append (text_from calls None fr) own)
 
 -- its lines, and what is left of them
-pub lines_of_own : (t : Told) → joined (own_lines t) ≡ ((lined t).marks ++ content (own_items (lined t))) ++ ending (own_items (lined t))
+pub lines_of_own : (t : Told) → joined (own_lines t) ≡ (lead_of (lined t) ++ content (own_items (lined t))) ++ ending (own_items (lined t))
 lines_of_own t =
     let b : LinedBlock = lined t in
-    append_assoc b.marks b.first (joined b.more) ∙ ap (λ (zs : List Item). b.marks ++ zs) (sym (content_ending (own_items b)))
-    ∙ sym (append_assoc b.marks (content (own_items b)) (ending (own_items b)))
+    append_assoc (lead_of b) b.first (joined b.more) ∙ ap (λ (zs : List Item). lead_of b ++ zs) (sym (content_ending (own_items b)))
+    ∙ sym (append_assoc (lead_of b) (content (own_items b)) (ending (own_items b)))
 
 own_content : (t : Told) → AreOfPage (own_items (lined t)) → AreOfPage (content (own_items (lined t)))
 own_content t h =
@@ -131,11 +131,11 @@ own_content t h =
 next_behind : (calls : List OuterCall) (front fr es : List Item) (at : ℕ) (t : Told) → Behind calls front fr es at → AreOfPage (own_items (lined t))
     → 1 ≤ length (content (own_items (lined t)))
     → Behind calls (behind_lines (behind_lines front (lined t).before) (own_lines t))
-    (behind_lines front (lined t).before ++ ((lined t).marks ++ content (own_items (lined t)))) (ending (own_items (lined t)))
-    ((at + length (text_from calls None ((es ++ joined (lined t).before) ++ (lined t).marks))) + length (sources (content (own_items (lined t)))))
+    (behind_lines front (lined t).before ++ (lead_of (lined t) ++ content (own_items (lined t)))) (ending (own_items (lined t)))
+    ((at + length (text_from calls None ((es ++ joined (lined t).before) ++ lead_of (lined t)))) + length (sources (content (own_items (lined t)))))
 next_behind calls front fr es at t b own some =
     let here : List Item = behind_lines front (lined t).before in
-    let m : List Item = (lined t).marks in
+    let m : List Item = lead_of (lined t) in
     let mine : List Item = content (own_items (lined t)) in
     let is : AllFrom None mine = from_page mine (own_content t own) in
     let end : Option ℕ = last_of None (here ++ m) in
@@ -167,9 +167,9 @@ known_from pages page front fr es at (t ∷ ts) b h =
     let c : IsChosen pages page here t = place_so pages page here t h.0 in
     let k : TextBlock = (lined t).block in
     let q : List ℕ = (lined t).text in
-    let before : List ℕ = text_from calls None ((es ++ joined (lined t).before) ++ (lined t).marks) in
+    let before : List ℕ = text_from calls None ((es ++ joined (lined t).before) ++ lead_of (lined t)) in
     let from : ℕ = at + length before in
-    let rest = known_from pages page (behind_lines here (own_lines t)) (here ++ ((lined t).marks ++ content own)) (ending own)
+    let rest = known_from pages page (behind_lines here (own_lines t)) (here ++ (lead_of (lined t) ++ content own)) (ending own)
     (from + length (sources (content own))) ts (next_behind calls front fr es at t b c.place.own c.place.some) h.1 in (
       (c.place.own, c.place.calm, rest.0),
       (subst (λ (n : ℕ). AreBeside n (n + length (sources own)) spans) (sym (spot_byte calls front fr es at t b)) c.place.beside, rest.1),
@@ -224,8 +224,8 @@ outside_from pages page front fr es at (t ∷ ts) b h o =
     let own : List Item = own_items (lined t) in
     let c : IsChosen pages page here t = place_so pages page here t h.0 in
     let ss : List BlockSpot = spots_on calls (ending own) (map lined ts) in
-    let from : ℕ = at + length (text_from calls None ((es ++ joined (lined t).before) ++ (lined t).marks)) in
-    let rest = outside_from pages page (behind_lines here (own_lines t)) (here ++ ((lined t).marks ++ content own)) (ending own)
+    let from : ℕ = at + length (text_from calls None ((es ++ joined (lined t).before) ++ lead_of (lined t))) in
+    let rest = outside_from pages page (behind_lines here (own_lines t)) (here ++ (lead_of (lined t) ++ content own)) (ending own)
     (from + length (sources (content own))) ts (next_behind calls front fr es at t b c.place.own c.place.some) h.1 o.1 in (
       subst (λ (n : ℕ). NoGroupAt n (called_tree pages page)) (sym (spot_byte calls front fr es at t b)) c.outside,
       subst (λ (n : ℕ). AreInNoGroup n ss (called_tree pages page)) (spot_end from t o.0) rest,
@@ -268,19 +268,19 @@ among_mapped f n (m ∷ ms) (inr h) = inr (among_mapped f n ms h)
 
 -- the rest of all items behind a block
 pub rest_is : (all front : List Item) (t : Told) (tail : Lines) → all ≡ front ++ joined ((lined t).before ++ (own_lines t ++ tail))
-    → (all ≡ (behind_lines front (lined t).before ++ (lined t).marks) ++ (own_items (lined t) ++ joined tail))
+    → (all ≡ (behind_lines front (lined t).before ++ lead_of (lined t)) ++ (own_items (lined t) ++ joined tail))
     × (all ≡ behind_lines (behind_lines front (lined t).before) (own_lines t) ++ joined tail)
 rest_is all front t tail e =
     let b : LinedBlock = lined t in
     let j : List Item = joined b.before in
     let here : List Item = behind_lines front b.before in
-    let parts : all ≡ front ++ ((j ++ b.marks) ++ (own_items b ++ joined tail)) = e ∙ ap (λ (zs : List Item). front ++ zs) (lines_joined b tail) in
-    let first : all ≡ (here ++ b.marks) ++ (own_items b ++ joined tail) =
-    parts ∙ sym (append_assoc front (j ++ b.marks) (own_items b ++ joined tail))
-    ∙ ap (λ (zs : List Item). zs ++ (own_items b ++ joined tail)) (sym (append_assoc front j b.marks) ∙ ap (λ (zs : List Item). zs ++ b.marks) (sym (front_of front t))) in
-    let own : joined (own_lines t) ≡ b.marks ++ own_items b = append_assoc b.marks b.first (joined b.more) in (
+    let parts : all ≡ front ++ ((j ++ lead_of b) ++ (own_items b ++ joined tail)) = e ∙ ap (λ (zs : List Item). front ++ zs) (lines_joined b tail) in
+    let first : all ≡ (here ++ lead_of b) ++ (own_items b ++ joined tail) =
+    parts ∙ sym (append_assoc front (j ++ lead_of b) (own_items b ++ joined tail))
+    ∙ ap (λ (zs : List Item). zs ++ (own_items b ++ joined tail)) (sym (append_assoc front j (lead_of b)) ∙ ap (λ (zs : List Item). zs ++ lead_of b) (sym (front_of front t))) in
+    let own : joined (own_lines t) ≡ lead_of b ++ own_items b = append_assoc (lead_of b) b.first (joined b.more) in (
       first,
-      first ∙ append_assoc here b.marks (own_items b ++ joined tail) ∙ ap (λ (zs : List Item). here ++ zs) (sym (append_assoc b.marks (own_items b) (joined tail)))
+      first ∙ append_assoc here (lead_of b) (own_items b ++ joined tail) ∙ ap (λ (zs : List Item). here ++ zs) (sym (append_assoc (lead_of b) (own_items b) (joined tail)))
           ∙ ap (λ (zs : List Item). here ++ (zs ++ joined tail)) (sym own) ∙ sym (append_assoc here (joined (own_lines t)) (joined tail))
           ∙ ap (λ (zs : List Item). zs ++ joined tail) (sym (behind_joined here (own_lines t))),
     )
@@ -299,14 +299,14 @@ starts_from_so pages page all front fr es at (t ∷ ts) behind b h o e ones =
     let next : List Item = behind_lines here (own_lines t) in
     let parts = rest_is all front t tail e in
     let before_size : size here ≡ size front + size (joined (lined t).before) = ap size (front_of front t) ∙ size_both front (joined (lined t).before) in
-    let first : start_of (size front) t ≡ size (here ++ (lined t).marks) = omega (arith, before_size, size_both here (lined t).marks) in
-    let first_byte : byte_at calls all (start_of (size front) t) ≡ at + length (text_from calls None ((es ++ joined (lined t).before) ++ (lined t).marks)) =
-    ap (byte_at calls all) first ∙ byte_of calls (here ++ (lined t).marks) (own ++ joined tail) all parts.0 ones
+    let first : start_of (size front) t ≡ size (here ++ lead_of (lined t)) = omega (arith, before_size, size_both here (lead_of (lined t))) in
+    let first_byte : byte_at calls all (start_of (size front) t) ≡ at + length (text_from calls None ((es ++ joined (lined t).before) ++ lead_of (lined t))) =
+    ap (byte_at calls all) first ∙ byte_of calls (here ++ lead_of (lined t)) (own ++ joined tail) all parts.0 ones
     ∙ sym (spot_byte calls front fr es at t b) in
     let later : size front + size (joined (lined t).before) + size (joined (own_lines t)) ≡ size next =
     omega (arith, before_size, ap size (behind_joined here (own_lines t)), size_both here (joined (own_lines t))) in
-    let from : ℕ = at + length (text_from calls None ((es ++ joined (lined t).before) ++ (lined t).marks)) in
-    let rest = starts_from_so pages page all next (here ++ ((lined t).marks ++ content own)) (ending own) (from + length (sources (content own))) ts behind
+    let from : ℕ = at + length (text_from calls None ((es ++ joined (lined t).before) ++ lead_of (lined t))) in
+    let rest = starts_from_so pages page all next (here ++ (lead_of (lined t) ++ content own)) (ending own) (from + length (sources (content own))) ts behind
     (next_behind calls front fr es at t b c.place.own c.place.some) h.1 o.1 parts.1 ones in
     ap₂ (λ (n : ℕ) (ns : List ℕ). n ∷ ns) first_byte
     (ap (λ (n : ℕ). map (byte_at calls all) (told_starts n ts)) later ∙ rest

@@ -33,14 +33,15 @@ use Rattle.wt_beside_laws.proofs.Derived.BodyRead.{parts_are}
 use Rattle.wt_beside_laws.proofs.Own.OpenLast.{ClosedLast, closed_behind, last_closed, closed_end}
 use Rattle.wt_called_edit_laws.specs.AllTold.{IsBesideTexts}
 use Rattle.wt_called_edit_laws.specs.LinedAmong.{spots_of_lines, end_of_lines, AreOfPage, AreBeside}
-use Rattle.wt_called_edit_laws.specs.PlacedLines.{LinedBlock, all_lines}
+use Rattle.wt_called_edit_laws.specs.PlacedLines.{LinedBlock, all_lines, lead_of}
 use Rattle.wt_called_edit_laws.specs.RowBlocks.{StandsIn, node_between}
 use Rattle.wt_called_edit_laws.specs.ToldLines.{Told, lined}
 use Rattle.wt_called_edit_laws.specs.ToldTogether.{start_of}
-use Rattle.wt_called_edit_laws.proofs.Among.BlockAt.{calls_of, IsRest, have_front, have_behind}
+use Rattle.wt_called_edit_laws.proofs.Among.BlockAt.{calls_of, IsRest}
 use Rattle.wt_called_edit_laws.proofs.Among.Flattened.{flat_all}
 use Rattle.wt_called_edit_laws.proofs.Among.LinedParts.{block_front, own_breaks, of_behind, page_rest, page_text}
 use Rattle.wt_called_edit_laws.proofs.Among.Members.{flat_widths, words_size}
+use Rattle.wt_called_edit_laws.proofs.Cells.SignLeads.{have_front, have_behind}
 use Rattle.wt_called_edit_laws.proofs.Among.OwnItems.{from_page}
 use Rattle.wt_called_edit_laws.proofs.Among.OwnSeams.{own_last, text_size, given}
 use Rattle.wt_called_edit_laws.proofs.Among.ToldAmong.{LineThere, line_there, line_items}
@@ -91,7 +92,7 @@ own_there pages page o rest are own some beside =
     let r : IsRest pages page 0 ([] ++ joined ls) (page_items page) = page_rest pages page ls (page_joined pages page ls are) in
     let there : IsRest pages page 0 (block_front [] b ++ (own_items b ++ joined rest)) (page_items page) =
     subst (λ (zs : List Item). IsRest pages page 0 zs (page_items page)) (line_items [] b rest) r in
-    let n : ℕ = length (text_from (calls_of pages page) None (joined b.before ++ b.marks)) in
+    let n : ℕ = length (text_from (calls_of pages page) None (joined b.before ++ lead_of b)) in
     let z : n ≡ 0 + n = omega arith in
     let long = ap length (content_ending (own_items b)) in
     let both = length-append (content (own_items b)) (ending (own_items b)) in
@@ -104,7 +105,7 @@ own_there pages page o rest are own some beside =
 record IsLastOwn (pages : Pages) (page : List ℕ) (o : Told) (rest : Lines) : Type 0 where
   front : List Item
   is : page_items page ≡ front ++ content (own_items (lined o))
-  ends : (expanded_page pages page).items ≡ (joined (lined o).before ++ (lined o).marks) ++ content (own_items (lined o))
+  ends : (expanded_page pages page).items ≡ (joined (lined o).before ++ lead_of (lined o)) ++ content (own_items (lined o))
 
 no_first : (xs ys : List ℕ) → xs ++ ys ≡ [] → xs ≡ []
 no_first [] ys e = refl
@@ -142,7 +143,7 @@ last_own pages page o rest are p e =
     record {
       front = t.front;
       is = t.is ∙ ap (λ (xs : List Item). t.front ++ xs) line;
-      ends = page_joined pages page (all_lines (b ∷ []) rest) are ∙ line_items [] b rest ∙ ap (λ (xs : List Item). (joined b.before ++ b.marks) ++ xs) expanded;
+      ends = page_joined pages page (all_lines (b ∷ []) rest) are ∙ line_items [] b rest ∙ ap (λ (xs : List Item). (joined b.before ++ lead_of b) ++ xs) expanded;
     }
 
 pub own_closed : (pages : Pages) (page : List ℕ) (o : Told) (rest : Lines) (n : ℕ) → full_lines (expanded_page pages page).items ≡ all_lines (lined o ∷ []) rest
@@ -167,7 +168,7 @@ own_closed pages page o rest n are p some seen k is_source c = (
         let i : IsLastOwn pages page o rest = last_own pages page o rest are p e in
         let xs : List Item = (expanded_page pages page).items in
         let all : page_items page ≡ i.front ++ (own ++ []) = i.is ∙ ap (λ (zs : List Item). i.front ++ zs) (sym (append-nil own)) in
-        let closed : ClosedLast own = closed_behind (joined b.before ++ b.marks) own (subst ClosedLast i.ends (last_closed xs (c e))) in
+        let closed : ClosedLast own = closed_behind (joined b.before ++ lead_of b) own (subst ClosedLast i.ends (last_closed xs (c e))) in
         let lines : Lines = all_lines (b ∷ []) rest in
         let runs : AreRuns goes_on lines xs = subst (λ (ms : Lines). AreRuns goes_on ms xs) are (runs_are goes_on xs) in
         let r : Round b rest = round b rest xs some runs (own_breaks (own_items b) p.own) in
@@ -194,7 +195,7 @@ own_reaches pages page t s o rest u r are p at own_size e =
     let own : List Item = own_items b in
     let i : IsLastOwn pages page o rest = last_own pages page o rest are p e in
     let items : List Item = (expanded_page pages page).items in
-    let front : List Item = (joined b.before ++ b.marks) ++ content own in
+    let front : List Item = (joined b.before ++ lead_of b) ++ content own in
     let node : List Item = s.before ++ tree_items s.block in
     let whole : tree_items (meaning items) ≡ node ++ s.behind = s.whole ∙ sym (append_assoc s.before (tree_items s.block) s.behind) in
     let all : items ≡ front ++ [] = i.ends ∙ sym (append-nil front) in
@@ -204,8 +205,8 @@ own_reaches pages page t s o rest u r are p at own_size e =
       at,
       own_size,
       size_both s.before (tree_items s.block),
-      size_both (joined b.before ++ b.marks) (content own),
-      size_both (joined b.before) b.marks,
+      size_both (joined b.before ++ lead_of b) (content own),
+      size_both (joined b.before) (lead_of b),
       sym (size_both (content own) (ending own)) ∙ ap size (content_ending own),
     ) in
     let text : text_from calls None node ≡ page =

@@ -1,6 +1,6 @@
 -- Each paragraph and heading of a page's tree, outside of groups, that holds no group and isn't tangled is one of those that the lines of the expanded page
 -- tell, or one of the excepted.
-use Rattle.std.proofs.Common.{arith, ◌≡◌, ◌≤◌, ◌⊎◌, inl, inr, ℕ, zero, suc, ◌+◌, Bool, true, false, None, List, [], ◌∷◌, ◌++◌, length, drop, map, refl, sym, ap, ◌∙◌, subst, append-nil, cond}
+use Rattle.std.proofs.Common.{arith, ◌≡◌, ◌≤◌, ◌⊎◌, inl, inr, ℕ, zero, suc, ◌+◌, Bool, true, false, None, List, [], ◌∷◌, ◌++◌, length, map, refl, sym, ap, ◌∙◌, subst, append-nil}
 use Rattle.std.specs.Prelude.{◌&&◌, ◌||◌}
 use Rattle.std.specs.Str.{IsUtf8}
 use Rattle.std.specs.List.{list_all}
@@ -23,7 +23,7 @@ use Rattle.wt_tables.specs.Parts.{joined}
 use Rattle.wt_page.specs.Headings.{heading}
 use Rattle.wt_page.specs.Lines.{kind_at, ending}
 use Rattle.wt_page.proofs.Ends.{content_ending}
-use Rattle.wt_page.specs.Rows.{rows_from, marks_len}
+use Rattle.wt_page.specs.Rows.{rows_from, marks_len, is_unseen}
 use Rattle.wt_page.specs.Texts.{para}
 use Rattle.wt_page_round_trip.proofs.OpenedPages.{AreOnes}
 use Rattle.wt_part_laws.specs.Frames.{content as content_part}
@@ -33,13 +33,13 @@ use Rattle.wt_isolation.specs.TextCalls.{touches_text_call}
 use Rattle.wt_selser.specs.Edits.{is_tangled}
 use Rattle.wt_selser.specs.GroupFaults.{has_faulty_group}
 use Rattle.wt_text_edit_laws.specs.BlockSpots.{BlockSpot, spots_source}
-use Rattle.wt_called_edit_laws.specs.AllTold.{starts_in, text_on_a_sign, by_its_lines, beside_a_call, IsExcepted, IsOneOf, AllBlocksTold, IsBesideNoCall, AreNoFunctions, IsBesideTexts, holds_a_function}
+use Rattle.wt_called_edit_laws.specs.AllTold.{starts_in, text_on_a_rule, a_brace_on_an_end, by_its_lines, beside_a_call, IsExcepted, IsOneOf, AllBlocksTold, IsBesideNoCall, AreNoFunctions, IsBesideTexts, holds_a_function}
 use Rattle.wt_text_edit_laws.proofs.Cuts.RowLines.{AllText}
-use Rattle.wt_text_edit_laws.proofs.Cuts.TextLines.{led_first, content_unled}
 use Rattle.wt_text_edit_laws.proofs.Paragraphs.Marks.{mark_sign, AreMarkSigns, kind_marks}
 use Rattle.wt_text_edit_laws.specs.NoCalls.{CallsNothing}
 use Rattle.wt_text_edit_laws.specs.PageCuts.{EndClosed}
 use Rattle.wt_text_edit_laws.specs.ParagraphBetween.{written_rows, tables_behind, EndApart, BeginApart}
+use Rattle.wt_text_edit_laws.specs.ReadContents.{BeginsUnclosed}
 use Rattle.wt_text_edit_laws.specs.TextBlocks.{a_paragraph, source_of, block_tree}
 use Rattle.wt_text_edit_laws.specs.Unclosed.{holds_unclosed}
 use Rattle.wt_beside_laws.proofs.Derived.BlockContents.{BlockSeen, block_seen}
@@ -54,8 +54,8 @@ use Rattle.wt_called_edit_laws.specs.LinedAmong.{spots_of_lines, end_of_lines, A
 use Rattle.wt_called_edit_laws.specs.LinedHeadings.{IsLinedHeading}
 use Rattle.wt_called_edit_laws.specs.Nodes.{block_at}
 use Rattle.wt_called_edit_laws.specs.PlacedBlocks.{AreLinesAt}
-use Rattle.wt_called_edit_laws.specs.PlacedLines.{LinedBlock, all_lines}
-use Rattle.wt_called_edit_laws.specs.RowBlocks.{IsTextBlock, IsReachedAt, IsReachedIn, StandsIn, begins_at, text_row, AreOfText, IsOfLines, of_lines, of_line, behind_a_sign, StandsOnRows, StandsOnLines}
+use Rattle.wt_called_edit_laws.specs.PlacedLines.{LinedBlock, all_lines, lead_of}
+use Rattle.wt_called_edit_laws.specs.RowBlocks.{IsTextBlock, IsReachedAt, IsReachedIn, StandsIn, begins_at, text_row, end_sign, past_end, begins_past, AreOfText, IsOfLines, of_lines, of_line, behind_an_end, behind_a_rule, StandsOnRows, StandsOnLines}
 use Rattle.wt_called_edit_laws.specs.ToldAmong.{IsToldAmong}
 use Rattle.wt_called_edit_laws.specs.ToldLines.{Told, lined, AreTold}
 use Rattle.wt_called_edit_laws.specs.ToldTogether.{start_of, told_starts, IsAmongNumbers, AreSome}
@@ -64,8 +64,8 @@ use Rattle.wt_called_edit_laws.proofs.Among.OwnItems.{from_page}
 use Rattle.wt_called_edit_laws.proofs.Among.ToldAmong.{told_among}
 use Rattle.wt_called_edit_laws.proofs.BlocksOutside.{editable_called}
 use Rattle.wt_called_edit_laws.proofs.CallsTake.{contents_by, contents_paths}
-use Rattle.wt_called_edit_laws.proofs.Cells.PlacedLines.{own_items, own_block, Round, round, lines_joined}
-use Rattle.wt_called_edit_laws.proofs.Cells.SpotSlots.{open_size}
+use Rattle.wt_called_edit_laws.proofs.Cells.PlacedLines.{own_items, Round, round, lines_joined}
+use Rattle.wt_called_edit_laws.proofs.Cells.SignLeads.{own_block}
 use Rattle.wt_called_edit_laws.proofs.EditFacts.{IsFramedPage, framed_page, paths_of, spots_stand, spots_contents}
 use Rattle.wt_called_edit_laws.proofs.GroupsAmong.{retyped_self}
 use Rattle.wt_called_edit_laws.proofs.PathsSend.{NoneEmpty, paths_full}
@@ -76,6 +76,7 @@ use Rattle.wt_called_edit_laws.proofs.AllTold.ClosedBlocks.{own_closed, own_reac
 use Rattle.wt_called_edit_laws.proofs.AllTold.ClosedLines.{NoneBlank, unclosed_by, AllPast, heading_size, para_size}
 use Rattle.wt_called_edit_laws.proofs.Told.HeadItems.{told_source, equals_seen, begins_content}
 use Rattle.wt_called_edit_laws.proofs.AllTold.EachBlocks.{EachBlockIn}
+use Rattle.wt_called_edit_laws.proofs.AllTold.EndSigns.{sign_whole, page_signs}
 use Rattle.wt_called_edit_laws.proofs.AllTold.Found.{size, tree_size, size_both}
 use Rattle.wt_called_edit_laws.proofs.AllTold.HeadSigns.{head_begins}
 use Rattle.wt_called_edit_laws.proofs.AllTold.LineBlocks.{block_on_lines}
@@ -87,8 +88,11 @@ use Rattle.wt_called_edit_laws.proofs.AllTold.OwnLines.{AreSeen, text_own_lines,
 use Rattle.wt_called_edit_laws.proofs.AllTold.OwnTrees.{OwnRound, paragraph_is, heading_is}
 use Rattle.wt_called_edit_laws.proofs.AllTold.PlaceStarts.{starts_from, spot_starts, paths_start, AllClear, clear_paths, AllHaveBytes, contents_some, LeadsThere, leads, leads_there}
 use Rattle.wt_called_edit_laws.proofs.AllTold.RowBlocks.{housed, page_stands, body_none, below}
-use Rattle.wt_called_edit_laws.proofs.AllTold.Scans.{Decided, text_told, heading_told}
+use Rattle.wt_called_edit_laws.proofs.AllTold.Scans.{Decided, tables_at, text_told, sign_told, heading_told}
+use Rattle.wt_called_edit_laws.proofs.AllTold.SignBlocks.{unclosed_decided, IsEndBlock, end_text, IsEndTold, end_told, end_begins}
+use Rattle.wt_called_edit_laws.proofs.AllTold.SignTrees.{end_paragraph_is}
 use Rattle.wt_called_edit_laws.proofs.AllTold.Starts.{HasByte, BlockAt, BlockIn, same_paths}
+use Rattle.wt_called_edit_laws.proofs.AllTold.TextFacts.{tables_same, text_all, text_lines_at, past_unled, first_unled, seen_shown}
 use Rattle.wt_called_edit_laws.proofs.AllTold.Together.{AreAllChosen, chosen_together, told_by_all}
 use Rattle.wt_called_edit_laws.proofs.AllTold.ToldStarts.{are_own, blank_is}
 
@@ -224,37 +228,7 @@ abbrev Answer : (pages : Pages) (page : List ℕ) (i : ℕ) (is : List ℕ) (t :
     → Type 0
 Answer pages page i is t a u r = Told_at pages page i is a u r ⊎ IsExcepted pages page t
 
-pub tables_same : (before : Lines) → tables_behind 0 before ≡ length (open_after [] (written_rows 0 before))
-tables_same before = open_size [] 0 before refl
-
-pub text_all : (n : ℕ) (ls : Lines) → AreOfText n ls → AllText n ls
-text_all n [] h = tt
-text_all n (l ∷ ls) h = (h.0, text_all n ls h.1)
-
-pub text_lines_at : (n : ℕ) (ls : Lines) → AreOfText n ls → AreLinesAt n ls
-text_lines_at n [] g = tt
-text_lines_at n (l ∷ ls) g = (g.0, text_lines_at n ls g.1)
-
--- behind the marks that begin a line none is first
-pub past_unled : (l : List Item) → marks_len (past_marks l) ≡ 0
-past_unled [] = refl
-past_unled (y ∷ ys) = by (is_mark y) refl (past_unled ys)
-  where
-    n : ℕ
-    n = marks_len ys
-
-    by : (v : Bool) → is_mark y ≡ v → marks_len (drop n ys) ≡ 0 → marks_len (drop (cond (is_mark y) (1 + n) 0) (y ∷ ys)) ≡ 0
-    by true e h =
-        let z : 1 + n ≡ suc n = omega arith in
-        ap (λ (v : Bool). marks_len (drop (cond v (1 + n) 0) (y ∷ ys))) e ∙ ap (λ (k : ℕ). marks_len (drop k (y ∷ ys))) z ∙ h
-    by false e h =
-        ap (λ (v : Bool). marks_len (drop (cond v (1 + n) 0) (y ∷ ys))) e ∙ ap (λ (v : Bool). cond v (1 + n) 0) e
-
-pub first_unled : (xs zs : List Item) → 1 ≤ length xs → marks_len xs ≡ 0 → marks_len (content (xs ++ zs)) ≡ 0
-first_unled [] zs some h = absurd (omega (arith, some))
-first_unled (x ∷ xs) zs some h = content_unled (x ∷ (xs ++ zs)) (led_first x xs (xs ++ zs) h)
-
-begins_so : (before : Lines) (l : List Item) (o : Told) → (lined o).before ≡ before → (lined o).marks ≡ led_by l → begins_at before l ≡ start_of 0 o
+begins_so : (before : Lines) (l : List Item) (o : Told) → (lined o).before ≡ before → lead_of (lined o) ≡ led_by l → begins_at before l ≡ start_of 0 o
 begins_so before l o e f = omega (arith, ap (λ (ls : Lines). size (joined ls)) e, ap size f)
 
 -- each of text shows something
@@ -339,7 +313,7 @@ content_ones : (pages : Pages) (page : List ℕ) (o : Told) (rest : Lines) → I
     → full_lines (expanded_page pages page).items ≡ all_lines (lined o ∷ []) rest → AreOnes (content (own_items (lined o)))
 content_ones pages page o rest u r are =
     let own : List Item = own_items (lined o) in
-    let front : List Item = joined (lined o).before ++ (lined o).marks in
+    let front : List Item = joined (lined o).before ++ lead_of (lined o) in
     let all : (expanded_page pages page).items ≡ front ++ (own ++ joined rest) =
     page_joined pages page (all_lines (lined o ∷ []) rest) are ∙ lines_joined (lined o) rest in
     ones_front (content own) (ending own)
@@ -384,7 +358,7 @@ text_case pages page i is t n a s before first others behind are cells apart tex
 
     told : AreTold (o ∷ []) behind
     told = (
-      record { are_marks = led_marks first; some = seen.0; in_cells = cells; apart = apart; own = (own, unled) },
+      record { sign = tt; unclosed = tt; are_marks = led_marks first; some = seen.0; in_cells = cells; apart = apart; own = (own, unled) },
       subst (λ (j : ℕ). BeginApart (rows_from j behind)) (tables_same before) stops,
     )
 
@@ -395,7 +369,7 @@ text_case pages page i is t n a s before first others behind are cells apart tex
     on = record {
       some = seen.0;
       seen = λ r. block_seen a_paragraph (lined o).text (content (own_items (lined o)))
-          (own_block a_paragraph m (lined o).text (past_marks first ∷ others) r.y r.ys r.some r.own_are (own, unled, refl)).0;
+          (own_block a_paragraph 0 before [] m (lined o).text (past_marks first ∷ others) r.y r.ys r.some r.own_are tt (own, unled, refl)).0;
       number = m;
       shown = none_blank m (past_marks first ∷ others) own;
       source = λ mine. refl;
@@ -431,7 +405,7 @@ heading_case pages page i is t n a s before own behind are cells kind_is at tree
 
     told : AreTold (o ∷ []) behind
     told = (
-      record { are_marks = led_marks own; some = seen; in_cells = cells; apart = tt; own = head },
+      record { sign = tt; unclosed = tt; are_marks = led_marks own; some = seen; in_cells = cells; apart = tt; own = head },
       tt,
     )
 
@@ -456,14 +430,68 @@ heading_case pages page i is t n a s before own behind are cells kind_is at tree
       tree_so = λ round. tree_is ∙ heading_is before (led_by own) l behind round;
     }
 
+-- behind the sign of a table's end
+end_case : (pages : Pages) (page : List ℕ) (i : ℕ) (is : List ℕ) (t : Tree) (n : IsNodeAt pages page i is t) (a : AreAllChosen pages page) (s : StandsIn pages page t)
+    (before : Lines) (own : List Item) (others behind : Lines) → full_lines (expanded_page pages page).items ≡ before ++ ((own ∷ others) ++ behind)
+    → IsEndBlock before own others behind → size s.before ≡ begins_past before (end_sign own) (past_end own)
+    → s.block ≡ para (map text_row (past_end own ∷ others)) → BeginsUnclosed (end_text own others) → Answer pages page i is t a n.utf8 n.unrefused
+end_case pages page i is t n a s before own others behind are block at tree_is apart =
+    by_place pages page i is t n a s o behind all told on (at ∙ end_begins before own others)
+    (text_own_lines l others s.block tree_is (own_tree pages page i is t n s) (h.some, texts_seen m others h.texts)
+    (content_ones pages page o behind n.utf8 n.unrefused all))
+  where
+    o : Told
+    o = sign_told before own others
+
+    m : ℕ
+    m = length (tables_at [] o)
+
+    l : List Item
+    l = past_end own
+
+    h : IsEndTold before own others behind
+    h = end_told (full_lines (expanded_page pages page).items) before own others behind (page_signs pages page n.utf8 n.unrefused) are block apart
+
+    told : AreTold (o ∷ []) behind
+    told = (h.told, h.stops)
+
+    all : full_lines (expanded_page pages page).items ≡ all_lines (lined o ∷ []) behind
+    all = are ∙ ap (λ (k : List Item). before ++ ((k ∷ others) ++ behind)) (sym (sign_whole own))
+
+    tree_so : OwnRound (lined o) behind → s.block ≡ block_tree (lined o).block (lined o).text
+    tree_so round =
+        tree_is ∙ ap (λ (k : List Item). para (map text_row (k ∷ others))) (sym (led_whole l))
+        ∙ end_paragraph_is before (end_sign own) (led_by l) (past_marks l) others behind round h.sign (led_marks l) (ap is_unseen (led_whole l) ∙ block.seen)
+        (text_all m others h.texts)
+
+    on : HasLines (lined o) behind s.block
+    on = record {
+      some = h.some;
+      seen = λ r. block_seen a_paragraph (lined o).text (content (own_items (lined o)))
+          (own_block a_paragraph 0 before (end_sign own) m (lined o).text (past_marks l ∷ others) r.y r.ys r.some r.own_are h.told.sign
+          (h.told.own.0, h.told.own.1, refl)).0;
+      number = m;
+      shown = ((λ e. seen_shown m (past_marks l) h.seen e), none_blank m others (text_lines_at m others h.texts));
+      source = λ mine. refl;
+      size_is = ap (λ (u : ItemTree). tree_size u + size (ending (own_items (lined o)))) tree_is ∙ para_size l others (h.some, all_past m others h.texts);
+      tree_so = tree_so;
+    }
+
 by_lines : (pages : Pages) (page : List ℕ) (i : ℕ) (is : List ℕ) (t : Tree) (n : IsNodeAt pages page i is t) (a : AreAllChosen pages page) (s : StandsIn pages page t)
     → IsOfLines (full_lines (expanded_page pages page).items) (size s.before) s.block → Answer pages page i is t a n.utf8 n.unrefused
 by_lines pages page i is t n a s (of_lines before first others behind are cells apart texts stops at tree_is) =
     text_case pages page i is t n a s before first others behind are cells apart texts stops at tree_is
 by_lines pages page i is t n a s (of_line before own behind are cells kind_is at tree_is) =
     heading_case pages page i is t n a s before own behind are cells kind_is at tree_is
-by_lines pages page i is t n a s (behind_a_sign before first others behind are unended at tree_is) =
-    inr (record { stands = s; begins_so = by_its_lines (text_on_a_sign before first others behind are unended at) })
+by_lines pages page i is t n a s (behind_an_end before own others behind are kind seen cells texts stops at tree_is) =
+    by (unclosed_decided (end_text own others))
+  where
+    by : Decided (BeginsUnclosed (end_text own others)) → Answer pages page i is t a n.utf8 n.unrefused
+    by (inl u) =
+        end_case pages page i is t n a s before own others behind are (record { kind = kind; seen = seen; cells = cells; texts = texts; stops = stops }) at tree_is u
+    by (inr f) = inr (record { stands = s; begins_so = by_its_lines (a_brace_on_an_end before own others behind are kind seen f at) })
+by_lines pages page i is t n a s (behind_a_rule before own others behind are kind seen cells texts stops at tree_is) =
+    inr (record { stands = s; begins_so = by_its_lines (text_on_a_rule before own (others ++ behind) are kind seen at) })
 
 complete_at : (pages : Pages) (page : List ℕ) (u : IsUtf8 page) (r : refusal_of_page pages page ≡ None) (a : AreAllChosen pages page)
     (p : List ℕ) (t : Tree) → IsReachedAt p (called_tree pages page) t → IsTextBlock (label t).kind → HasNoGroup t → is_tangled (expanded_page pages page) page t ≡ false
@@ -485,7 +513,7 @@ complete_at pages page u r a (i ∷ is) t e b g f h =
 
 pub all_blocks : (pages : Pages) (page : List ℕ) → IsUtf8 page → refusal_of_page pages page ≡ None → AllBlocksTold pages page
 all_blocks pages page u r =
-    let a : AreAllChosen pages page = chosen_together pages page in
+    let a : AreAllChosen pages page = chosen_together pages page u r in
     record {
       ts = a.ts;
       behind = a.behind;

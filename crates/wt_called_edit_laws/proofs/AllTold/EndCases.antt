@@ -1,16 +1,16 @@
 -- Worked cases by computing: an ordinary page, told by its lines, no block of which is excepted; and pages that end with a comment.
-use Rattle.std.proofs.Common.{arith, length, ◌≡◌, ℕ, true, None, List, [], ◌∷◌, ◌++◌, map, refl, sym, ap, ◌∙◌, subst}
+use Rattle.std.proofs.Common.{arith, length, ◌≡◌, ℕ, true, false, None, List, [], ◌∷◌, ◌++◌, map, refl, sym, ap, ◌∙◌, subst}
 use Rattle.std.specs.Prelude.{codes}
 use Rattle.std.specs.Str.{IsUtf8}
 use lib.Utf8.{encode}
 use Rattle.wt_span.specs.Comments.{comment_len, comment_line_len}
 use Rattle.wt_span.specs.Entities.{named_entity, entity_names, decimal_entity, hex_entity, entity_at}
-use Rattle.wt_span.specs.Items.{Item, whole}
+use Rattle.wt_span.specs.Items.{Item, char, whole, sources}
 use Rattle.wt_span.specs.declared.form.ItemForm.TheVariants as form
 use Rattle.wt_span.specs.Lexemes.{sign_word, form_at, closed, words}
 use Rattle.wt_span.specs.Tags.{opening_tag, closing_tag, tag_after, with_inside, is_extension, raw_len, include_at}
 use Rattle.wt_lines.specs.Kinds.{kind_of_signs}
-use Rattle.wt_lines.specs.Lines.{full_lines}
+use Rattle.wt_lines.specs.Lines.{content, full_lines}
 use Rattle.wt_blocks.specs.Headings.{level, opening, inside, closing}
 use Rattle.wt_tables.specs.Cells.{single_at, bar_at, cell_of, cells, table_attributes, row_attributes}
 use Rattle.wt_tables.specs.Extents.{inner_len}
@@ -44,19 +44,27 @@ use Rattle.wt_called_edit_laws.specs.ToldLines.{Told, a_paragraph_of, a_heading_
 use Rattle.wt_called_edit_laws.proofs.Cells.PageCases.{is_free, are_free, free_node}
 use Rattle.wt_span.specs.Origins.{Expanded}
 use Rattle.wt_tree.specs.Tree.{Tree}
-use Rattle.wt_page.specs.Rows.{Row, rows_from}
+use Rattle.wt_page.specs.Lines.{kind_at}
+use Rattle.wt_page.specs.Rows.{is_unseen}
+use Rattle.wt_lines.specs.declared.kind.LineKind.TheVariants as line
+use Rattle.wt_tables.specs.Extents.{behind}
+use Rattle.wt_tables.specs.Parts.{joined}
+use Rattle.wt_text_edit_laws.specs.ParagraphBetween.{tables_behind}
+use Rattle.wt_text_edit_laws.specs.ReadContents.{BeginsUnclosed}
 use Rattle.wt_expand.specs.PageCalls.{expanded_page}
 use Rattle.wt_expand.specs.Work.{Pages}
-use Rattle.wt_text_edit_laws.specs.BodyParagraphs.{EndsIts, EndWhole}
 use Rattle.wt_text_edit_laws.specs.PageCuts.{EndsClosed}
 use Rattle.wt_text_edit_laws.proofs.Between.NoCalls.{calm_expanded}
-use Rattle.wt_called_edit_laws.specs.AllTold.{IsExceptedAt, text_on_a_sign, IsExcepted}
+use Rattle.wt_called_edit_laws.specs.AllTold.{IsExceptedAt, text_on_a_rule, a_brace_on_an_end, IsExcepted}
+use Rattle.wt_called_edit_laws.specs.RowBlocks.{past_end, past_rule}
 use Rattle.wt_called_edit_laws.proofs.AllTold.CalmPages.{calm_excepted}
+use Rattle.wt_called_edit_laws.proofs.AllTold.SignBlocks.{end_text}
 
--- ---- an ordinary page: a heading, two paragraphs, with bold and a link in the first, a list, a table with a caption and two cells, and a paragraph
+-- ---- an ordinary page: a heading, two paragraphs, with bold and a link in the first, a list, a table with a caption and two cells, and a paragraph on the
+-- line of the table's end
 
 abbrev page : List ℕ
-page = codes "== a ==\nb '''c''' [[d]]\n\ne\n* f\n{|\n|+ g\n|\nh\n|\ni\n|}\nj"
+page = codes "== a ==\nb '''c''' [[d]]\n\ne\n* f\n{|\n|+ g\n|\nh\n|\ni\n|}j"
 
 abbrev items : List Item
 items = page_chars page
@@ -67,11 +75,11 @@ line_of bs = page_chars bs
 abbrev told : List Told
 told =
     a_heading_on [] [] (line_of (codes "== a ==\n"))
-    ∷ a_paragraph_of [] [] (line_of (codes "b '''c''' [[d]]\n")) []
-    ∷ a_paragraph_of (line_of (codes "\n") ∷ []) [] (line_of (codes "e\n")) []
-    ∷ a_paragraph_of (line_of (codes "* f\n") ∷ line_of (codes "{|\n") ∷ line_of (codes "|+ g\n") ∷ line_of (codes "|\n") ∷ []) [] (line_of (codes "h\n")) []
-    ∷ a_paragraph_of (line_of (codes "|\n") ∷ []) [] (line_of (codes "i\n")) []
-    ∷ a_paragraph_of (line_of (codes "|}\n") ∷ []) [] (line_of (codes "j")) []
+    ∷ a_paragraph_of [] [] [] (line_of (codes "b '''c''' [[d]]\n")) []
+    ∷ a_paragraph_of (line_of (codes "\n") ∷ []) [] [] (line_of (codes "e\n")) []
+    ∷ a_paragraph_of (line_of (codes "* f\n") ∷ line_of (codes "{|\n") ∷ line_of (codes "|+ g\n") ∷ line_of (codes "|\n") ∷ []) [] [] (line_of (codes "h\n")) []
+    ∷ a_paragraph_of (line_of (codes "|\n") ∷ []) [] [] (line_of (codes "i\n")) []
+    ∷ a_paragraph_of [] (line_of (codes "|}")) [] (line_of (codes "j")) []
     ∷ []
 
 are_items : page_items page ≡ items
@@ -85,22 +93,43 @@ lines_are = refl
 told_here : AreTold told []
 unfolding kind_of_signs level opening inside closing
 told_here = (
-  record { are_marks = refl; some = omega arith; in_cells = tt; apart = tt; own = record { is_heading = refl; first = refl } },
+  record { sign = tt; unclosed = tt; are_marks = refl; some = omega arith; in_cells = tt; apart = tt; own = record { is_heading = refl; first = refl } },
   (
     tt,
-    record { are_marks = refl; some = omega arith; in_cells = tt; apart = tt; own = ((refl, tt), refl) },
+    record { sign = tt; unclosed = tt; are_marks = refl; some = omega arith; in_cells = tt; apart = tt; own = ((refl, tt), refl) },
     (
       refl,
-      record { are_marks = refl; some = omega arith; in_cells = tt; apart = refl; own = ((refl, tt), refl) },
+      record { sign = tt; unclosed = tt; are_marks = refl; some = omega arith; in_cells = tt; apart = refl; own = ((refl, tt), refl) },
       (
         refl,
-        record { are_marks = refl; some = omega arith; in_cells = (refl, tt); apart = refl; own = ((refl, tt), refl) },
+        record { sign = tt; unclosed = tt; are_marks = refl; some = omega arith; in_cells = (refl, tt); apart = refl; own = ((refl, tt), refl) },
         (
           refl,
-          record { are_marks = refl; some = omega arith; in_cells = (refl, tt); apart = refl; own = ((refl, tt), refl) },
+          record { sign = tt; unclosed = tt; are_marks = refl; some = omega arith; in_cells = (refl, tt); apart = refl; own = ((refl, tt), refl) },
           (
             refl,
-            record { are_marks = refl; some = omega arith; in_cells = tt; apart = refl; own = ((refl, tt), refl) },
+            record {
+              sign = (
+                record {
+                  lead = [];
+                  bar = char None 124;
+                  brace = char None 125;
+                  is = refl;
+                  idle = tt;
+                  is_bar = refl;
+                  bar_goes = refl;
+                  is_brace = refl;
+                  brace_goes = refl;
+                },
+                omega arith,
+              );
+              unclosed = refl;
+              are_marks = refl;
+              some = omega arith;
+              in_cells = tt;
+              apart = refl;
+              own = ((refl, tt), refl);
+            },
             tt,
           ),
         ),
@@ -120,30 +149,77 @@ calm = subst (λ (xs : List Item). CallsNothing xs) (sym are_items) tt
 
 -- ---- no block of it is excepted
 
--- each but the last ends its line where it has to
-abbrev pub AllWhole : List Row → Type 0
-AllWhole [] = Unit {0}
-AllWhole (r ∷ []) = Unit {0}
-AllWhole (r ∷ s ∷ rs) = EndsIts r.kind r.ending × AllWhole (s ∷ rs)
+-- of no rule, and what is behind a table's end on its line begins with no `}`
+abbrev IsQuiet : ℕ → List Item → Type 0
+IsQuiet n l =
+    (kind_at n l ≡ line.Rule → is_unseen (past_rule l) ≡ false → ⊥)
+    × (kind_at n l ≡ line.TableEnd → is_unseen (past_end l) ≡ false → (others : List (List Item)) → BeginsUnclosed (end_text l others))
 
-front_whole : (before : List Row) (r : Row) (rs : List Row) → AllWhole (before ++ r ∷ rs) → EndWhole before
-front_whole [] r rs h = tt
-front_whole (b ∷ []) r rs h = h.0
-front_whole (b ∷ c ∷ bs) r rs h = front_whole (c ∷ bs) r rs h.1
+abbrev AreQuiet : ℕ → List (List Item) → Type 0
+AreQuiet n [] = Unit {0}
+AreQuiet n (l ∷ ls) = IsQuiet n l × AreQuiet (behind n (kind_at n l)) ls
 
-pub none_excepted_at : (ls : List (List Item)) (at : ℕ) → AllWhole (rows_from 0 ls) → IsExceptedAt ls at → ⊥
-none_excepted_at ls at h (text_on_a_sign before first others behind are f e) =
-    f (front_whole before first (others ++ behind) (subst AllWhole are h))
+quiet_at : (n : ℕ) (before : List (List Item)) (l : List Item) (ls : List (List Item)) → AreQuiet n (before ++ l ∷ ls) → IsQuiet (tables_behind n before) l
+quiet_at n [] l ls h = h.0
+quiet_at n (k ∷ before) l ls h = quiet_at (behind n (kind_at n k)) before l ls h.1
 
-all_whole : AllWhole (rows_from 0 (full_lines items))
+none_excepted_at : (ls : List (List Item)) (at : ℕ) → AreQuiet 0 ls → IsExceptedAt ls at → ⊥
+none_excepted_at ls at h (text_on_a_rule before own after are k seen e) = (quiet_at 0 before own after (subst (AreQuiet 0) are h)).0 k seen
+none_excepted_at ls at h (a_brace_on_an_end before own others after are k seen f e) =
+    f ((quiet_at 0 before own (others ++ after) (subst (AreQuiet 0) are h)).1 k seen others)
+
+last_unclosed : (others : List (List Item)) → BeginsUnclosed (end_text (line_of (codes "|}j")) others)
+last_unclosed others = by (joined others)
+  where
+    by : (xs : List Item) → BeginsUnclosed (sources (content (line_of (codes "j") ++ xs)))
+    by [] = refl
+    by (x ∷ xs) = refl
+
+all_quiet : AreQuiet 0 (full_lines items)
 unfolding kind_of_signs level opening inside closing single_at bar_at cell_of cells table_attributes row_attributes inner_len
-all_whole = (tt, (tt, (tt, (tt, (tt, (tt, (tt, (tt, (tt, (tt, (tt, ((λ z. cc), tt))))))))))))
+all_quiet = (
+  ((λ z u. absurd (cc)), (λ z u others. absurd (cc))),
+  (
+    ((λ z u. absurd (cc)), (λ z u others. absurd (cc))),
+    (
+      ((λ z u. absurd (cc)), (λ z u others. absurd (cc))),
+      (
+        ((λ z u. absurd (cc)), (λ z u others. absurd (cc))),
+        (
+          ((λ z u. absurd (cc)), (λ z u others. absurd (cc))),
+          (
+            ((λ z u. absurd (cc)), (λ z u others. absurd (cc))),
+            (
+              ((λ z u. absurd (cc)), (λ z u others. absurd (cc))),
+              (
+                ((λ z u. absurd (cc)), (λ z u others. absurd (cc))),
+                (
+                  ((λ z u. absurd (cc)), (λ z u others. absurd (cc))),
+                  (
+                    ((λ z u. absurd (cc)), (λ z u others. absurd (cc))),
+                    (
+                      ((λ z u. absurd (cc)), (λ z u others. absurd (cc))),
+                      (
+                        ((λ z u. absurd (cc)), (λ z u others. last_unclosed others)),
+                        tt,
+                      ),
+                    ),
+                  ),
+                ),
+              ),
+            ),
+          ),
+        ),
+      ),
+    ),
+  ),
+)
 
 none_excepted : (pages : Pages) (t : Tree) → IsExcepted pages page t → ⊥
 none_excepted pages t x =
     let r = calm_excepted pages page t calm x in
     let is : (expanded_page pages page).items ≡ items = ap (λ (e : Expanded). e.items) (calm_expanded pages page calm) ∙ are_items in
-    none_excepted_at (full_lines (expanded_page pages page).items) _ (subst (λ (xs : List Item). AllWhole (rows_from 0 (full_lines xs))) (sym is) all_whole) r.1
+    none_excepted_at (full_lines (expanded_page pages page).items) _ (subst (λ (xs : List Item). AreQuiet 0 (full_lines xs)) (sym is) all_quiet) r.1
 
 -- ---- a page that ends with a line of comments, of which a line break behind it makes one line break less
 
@@ -171,12 +247,12 @@ unfolding is_free are_free page_items words closed form_at comment_len comment_l
 ended_free = refl
 
 abbrev ended_told : List Told
-ended_told = a_paragraph_of [] [] (page_chars (codes "a\n")) [] ∷ []
+ended_told = a_paragraph_of [] [] [] (page_chars (codes "a\n")) [] ∷ []
 
 ended_here : AreTold ended_told ((comment ∷ []) ∷ [])
 unfolding kind_of_signs level opening inside closing
 ended_here = (
-  record { are_marks = refl; some = omega arith; in_cells = tt; apart = tt; own = ((refl, tt), refl) },
+  record { sign = tt; unclosed = tt; are_marks = refl; some = omega arith; in_cells = tt; apart = tt; own = ((refl, tt), refl) },
   refl,
 )
 

@@ -106,7 +106,7 @@ abbrev pub IsByteItem : Item → Type 0
 IsByteItem (char o b) = IsByte b
 IsByteItem (whole f o bs) = Unit {0}
 
-first_byte : (run : List ℕ) (x : Item) (xs : List Item) → AreTexts run (x ∷ xs) → IsByteItem x
+pub first_byte : (run : List ℕ) (x : Item) (xs : List Item) → AreTexts run (x ∷ xs) → IsByteItem x
 first_byte run (char o b) xs h = last_byte run b (run_bytes (run ++ b ∷ []) xs h.1)
 first_byte run (whole f o bs) xs h = tt
 

@@ -32,14 +32,15 @@ use Rattle.wt_called_edit_laws.specs.AllTold.{starts_in}
 use Rattle.wt_called_edit_laws.specs.CalledContents.{tree_round}
 use Rattle.wt_called_edit_laws.specs.CallingBlocks.{IsContentIn}
 use Rattle.wt_called_edit_laws.specs.CallingTogether.{IsEditableAt}
-use Rattle.wt_called_edit_laws.specs.CallingTold.{as_block, IsBesideOwn, on_a_sign, broken_by_a_call, IsExceptedByLines}
+use Rattle.wt_called_edit_laws.specs.CallingTold.{as_block, IsBesideOwn, on_a_sign, broken_by_a_call}
 use Rattle.wt_called_edit_laws.specs.Covered.{HasFreeByte}
 use Rattle.wt_called_edit_laws.specs.EditableNodes.{IsEditable, IsEditableNode}
 use Rattle.wt_called_edit_laws.specs.Groups.{called_tree}
 use Rattle.wt_called_edit_laws.specs.LinedAmong.{AreOfPage, AreBeside}
-use Rattle.wt_called_edit_laws.specs.PlacedLines.{LinedBlock, all_lines}
+use Rattle.wt_called_edit_laws.specs.PlacedLines.{LinedBlock, lead_of, all_lines}
 use Rattle.wt_called_edit_laws.specs.RowBlocks.{IsReachedIn, StandsIn}
 use Rattle.wt_called_edit_laws.specs.Settled.{settled}
+use Rattle.wt_called_edit_laws.specs.SignLines.{IsApartFrom}
 use Rattle.wt_called_edit_laws.specs.ToldLines.{Told, lined}
 use Rattle.wt_called_edit_laws.proofs.Among.CallingLines.{IsLinedWithCalls, IsGivenFirst, given_first}
 use Rattle.wt_called_edit_laws.proofs.Among.TextEnds.{AreTextsIn}
@@ -51,7 +52,7 @@ use Rattle.wt_called_edit_laws.proofs.AllTold.BlockBytes.{end_byte, node_ends, b
 use Rattle.wt_called_edit_laws.proofs.AllTold.Chosen.{none_decided, own_decided}
 use Rattle.wt_called_edit_laws.proofs.AllTold.ChosenLines.{ones_front, ones_behind}
 use Rattle.wt_called_edit_laws.proofs.AllTold.Complete.{untouched_tree}
-use Rattle.wt_called_edit_laws.proofs.AllTold.NodeLines.{IsOfKind, NodeLines, node_lines, line_count, line_source}
+use Rattle.wt_called_edit_laws.proofs.AllTold.NodeLines.{IsOfKind, IsUntold, NodeLines, node_lines, line_count, line_source}
 use Rattle.wt_called_edit_laws.proofs.AllTold.NodePlaces.{first_byte, node_begins, between_begins}
 use Rattle.wt_called_edit_laws.proofs.AllTold.OneNode.{text_before}
 use Rattle.wt_called_edit_laws.proofs.AllTold.OnLines.{line_front, line_whole}
@@ -130,7 +131,7 @@ free_there pages page i is t from to u r e h start end =
 
 -- ---- what is known of its lines
 
--- of a block behind these items and these marks, with these items
+-- of a block behind these items and what begins its line, with these items
 pub record IsKnownHere (pages : Pages) (page : List ℕ) (front marks own : List Item) (k : TextBlock) (q : List ℕ) : Type 0 where
   pub ends : last_of None front ≡ None
   pub own_marks : AreOfPage marks
@@ -150,13 +151,17 @@ pub record KnownTold (pages : Pages) (page : List ℕ) : Type 0 where
   pub block : TextBlock
   pub text : List ℕ
   pub kind : IsOfKind (lined told).block block
-  pub known : IsKnownHere pages page (joined (lined told).before) (lined told).marks (own_items (lined told)) block text
+  pub known : IsKnownHere pages page (joined (lined told).before) (lead_of (lined told)) (own_items (lined told)) block text
 
 -- ---- of a node
 
 -- its block, as its lines tell it
 abbrev node_block : {pages : Pages} {page : List ℕ} {t : Tree} → NodeLines pages page t → IsEditableNode pages t → LinedBlock
-node_block n d = as_block (lined n.told).before (lined n.told).marks (lined n.told).first (lined n.told).more d.block d.text
+node_block n d = as_block (lined n.told).before (lined n.told).sign (lined n.told).marks (lined n.told).first (lined n.told).more d.block d.text
+
+-- it begins with its marks
+lead_is : (pages : Pages) (page : List ℕ) (t : Tree) (n : NodeLines pages page t) → lead_of (lined n.told) ≡ (lined n.told).marks
+lead_is pages page t n = ap (λ (xs : List Item). xs ++ (lined n.told).marks) n.unsigned
 
 -- no call that is text touches it
 node_apart : (pages : Pages) (page : List ℕ) (i : ℕ) (is : List ℕ) (t : Tree) → IsUtf8 page → refusal_of_page pages page ≡ None → IsEditableAt pages page (i ∷ is) t
@@ -168,7 +173,7 @@ node_apart pages page i is t u r h n first =
     let calls : List OuterCall = e.outer in
     let l : LinedBlock = lined n.told in
     let fs : List Item = joined l.before in
-    let ms : List Item = l.marks in
+    let ms : List Item = lead_of l in
     let others : List Item = own_items l ++ joined n.rest in
     let o : Option Ranges = (label t).ranges in
     let whole : e.items ≡ (fs ++ ms) ++ others = line_whole pages page l n.rest n.are in
@@ -182,7 +187,7 @@ node_apart pages page i is t u r h n first =
     let some : from_byte o < to_byte o = omega (arith, from, to, last, byte) in
     let ranged : AreBeside (from_byte o) (to_byte o) e.text_calls =
     apart_ranges calls (fs ++ (ms ++ others)) o e.text_calls texts (untouched_tree e page t h.untangled) some in
-    marks_beside calls fs ms others (length (text_from calls None (fs ++ ms)) + length (flat t)) e.text_calls texts n.lines.0.are_marks
+    marks_beside calls fs ms others (length (text_from calls None (fs ++ ms)) + length (flat t)) e.text_calls texts (ap (list_all is_mark) (lead_is pages page t n) ∙ n.lines.0.are_marks)
     (subst (λ (m : ℕ). AreBeside m (length (text_from calls None (fs ++ ms)) + length (flat t)) e.text_calls) (from ∙ first)
     (subst (λ (m : ℕ). AreBeside (from_byte o) m e.text_calls) (to ∙ end) ranged))
 
@@ -264,11 +269,21 @@ known_so pages page i is t u r h n b =
     let from_is : from ≡ 0 + from = omega arith in
     let first_apart : AreBeside (0 + line) ((0 + from) + long) spans =
     subst (λ (m : ℕ). AreBeside m ((0 + from) + long) spans) line_is (subst (λ (m : ℕ). AreBeside line (m + long) spans) from_is apart) in
+    let own_lead : AreOfPage (lead_of l) = subst AreOfPage (sym (lead_is pages page t n)) b.marks in
     let alone : IsLinedWithCalls pages page (c ∷ []) n.rest = record {
       utf8 = u;
       are = n.are;
       lined = lined_on (n.told ∷ []) (c ∷ []) n.rest (record { is = refl; kind = n.kind d.block d.kind }, tt) n.lines;
-      here = (record { before = b.ends; marks = b.marks; breaks = b.breaks; source = source }, tt);
+      here = (
+        record {
+          before = b.ends;
+          marks = own_lead;
+          breaks = b.breaks;
+          source = source;
+          unclosed = subst (λ (xs : List Item). IsApartFrom xs d.text) (sym n.unsigned) tt;
+        },
+        tt,
+      );
       contents = (any_content pages d.block d.text d.content, tt);
       editable = (any_editable pages d.block d.text d.content, tt);
       apart = (first_apart, tt);
@@ -291,7 +306,7 @@ known_so pages page i is t u r h n b =
         kind = n.kind d.block d.kind;
         known = record {
           ends = b.ends;
-          own_marks = b.marks;
+          own_marks = own_lead;
           breaks = b.breaks;
           source = source;
           apart = apart;
@@ -311,8 +326,8 @@ known_node pages page i is t u r h = by (node_lines pages page (i ∷ is) t u r 
   where
     on : (n : NodeLines pages page t) → Decided (IsBesideOwn (joined (lined n.told).before) n.told) → KnownNode pages page t
     on n (inl b) = known_so pages page i is t u r h n b
-    on n (inr f) = absurd (h.unexcepted (record { stands = n.stands; begins_so = broken_by_a_call n.told n.rest n.are n.lines n.begins f }))
+    on n (inr f) = absurd (h.unexcepted (record { stands = n.stands; begins_so = broken_by_a_call n.told n.rest n.are n.lines n.begins n.unsigned f }))
 
-    by : NodeLines pages page t ⊎ IsExceptedByLines pages page t → KnownNode pages page t
+    by : NodeLines pages page t ⊎ IsUntold pages page t → KnownNode pages page t
     by (inr x) = absurd (h.unexcepted (record { stands = x.stands; begins_so = on_a_sign x.by_lines }))
     by (inl n) = on n (beside_decided (joined (lined n.told).before) n.told)

@@ -1,5 +1,5 @@
 -- Each paragraph and each heading of a page's tree, outside of groups, is of the expanded page's lines, or it begins behind a sign on a line.
-use Rattle.std.proofs.Common.{arith, ◌≡◌, ◌⊎◌, inl, inr, ℕ, zero, suc, Bool, true, false, None, List, [], ◌∷◌, ◌++◌, drop, map, refl, sym, ap, ap₂, ◌∙◌, subst, append_assoc}
+use Rattle.std.proofs.Common.{arith, ◌≡◌, inl, inr, ℕ, zero, suc, ◌+◌, Bool, true, false, None, List, [], ◌∷◌, ◌++◌, take, drop, map, refl, sym, ap, ap₂, ◌∙◌, subst, append-nil, append_assoc}
 use Rattle.std.specs.Prelude.{replicate, if◌then◌else◌}
 use Rattle.std.specs.Str.{IsUtf8}
 use Rattle.wt_tree.specs.Tree.{Tree, label}
@@ -16,22 +16,23 @@ use Rattle.wt_tables.specs.Extents.{behind}
 use Rattle.wt_tables.specs.Parts.{joined}
 use Rattle.wt_page.specs.Headings.{heading}
 use Rattle.wt_page.specs.Lines.{kind_at}
-use Rattle.wt_page.specs.Rows.{Row, marks_len, idle_len, dashes, is_unseen, behind_sign, sign_row, whole_row, line_rows, unwritten_end, rows_from}
+use Rattle.wt_page.specs.Rows.{Row, all_items, marks_len, idle_len, dashes, is_unseen, behind_sign, sign_row, whole_row, line_rows, unwritten_end, rows_from}
 use Rattle.wt_page.specs.Texts.{para}
 use Rattle.wt_page.proofs.HeldRows.{unwritten, from_lines}
 use Rattle.wt_part_laws.specs.Blocks.{AllAre, BeginOtherwise}
 use Rattle.wt_part_laws.specs.Rounds.{EndOtherwise}
-use Rattle.wt_part_laws.specs.Slots.{AllTrue}
-use Rattle.wt_text_edit_laws.specs.BodyParagraphs.{EndsIts, EndWhole}
+use Rattle.wt_part_laws.specs.Slots.{open_behind, AllTrue}
 use Rattle.wt_text_edit_laws.specs.ParagraphBetween.{written_rows, tables_behind, EndApart, BeginApart}
-use Rattle.wt_text_edit_laws.proofs.Cuts.RowLines.{AllText, TextLine, text_line, TextLines, text_lines}
+use Rattle.wt_text_edit_laws.proofs.Cuts.RowLines.{AllText, TextLine, TextLines, text_lines}
 use Rattle.wt_called_edit_laws.specs.AnyBlocks.{open_after}
 use Rattle.wt_called_edit_laws.specs.Groups.{called_tree}
-use Rattle.wt_called_edit_laws.specs.RowBlocks.{IsTextBlock, IsReachedAt, begins_behind, begins_at, text_row, AreOfText, IsOfRows, of_text, of_heading, StandsOnRows, IsOfLines, of_lines, of_line, behind_a_sign, StandsOnLines}
+use Rattle.wt_called_edit_laws.specs.RowBlocks.{IsTextBlock, IsReachedAt, begins_behind, begins_at, text_row, end_sign, past_end, rule_len, rule_sign, past_rule, begins_past, AreOfText, IsOfRows, of_text, of_heading, StandsOnRows, IsOfLines, of_lines, of_line, behind_an_end, behind_a_rule, StandsOnLines}
 use Rattle.wt_called_edit_laws.proofs.AllTold.Found.{size}
 use Rattle.wt_called_edit_laws.proofs.AllTold.FoundTables.{width, width_both}
 use Rattle.wt_called_edit_laws.proofs.AllTold.LineKinds.{Lines}
+use Rattle.wt_called_edit_laws.proofs.AllTold.Opens.{open_both}
 use Rattle.wt_called_edit_laws.proofs.AllTold.RowBlocks.{block_on_rows}
+use Rattle.wt_called_edit_laws.proofs.AllTold.SignLines.{SignShape, an_end, a_rule, SignedLine, IsOnLine, row_line}
 
 -- ---- rows beside
 
@@ -47,18 +48,6 @@ end_apart (r ∷ s ∷ rs) h = end_apart (s ∷ rs) h
 begin_apart : (rs : List Row) → BeginOtherwise line.Text rs → BeginApart rs
 begin_apart [] h = tt
 begin_apart (r ∷ rs) h = no_text r.kind h
-
-its_decided : (k : LineKind) (e : List Item) → EndsIts k e ⊎ (EndsIts k e → ⊥)
-its_decided line.TableEnd [] = inr (λ h. h refl)
-its_decided line.TableEnd (x ∷ xs) = inl (λ e. absurd (cc))
-its_decided line.Rule [] = inr (λ h. h refl)
-its_decided line.Rule (x ∷ xs) = inl (λ e. absurd (cc))
-its_decided k e = inl tt
-
-whole_decided : (rs : List Row) → EndWhole rs ⊎ (EndWhole rs → ⊥)
-whole_decided [] = inl tt
-whole_decided (r ∷ []) = its_decided r.kind r.ending
-whole_decided (r ∷ s ∷ rs) = whole_decided (s ∷ rs)
 
 -- ---- as many bytes as the lines have
 
@@ -81,12 +70,11 @@ all_of_text n [] h = tt
 all_of_text n (l ∷ ls) h = (h.0, all_of_text n ls h.1)
 
 text_of_lines : (ls : Lines) (at : ℕ) (u : ItemTree) (before : List Row) (first : Row) (others after : List Row)
-    → rows_from 0 ls ≡ before ++ ((first ∷ others) ++ after) → AllTrue (open_after [] before) → EndOtherwise line.Text before → AllAre line.Text (first ∷ others)
-    → BeginOtherwise line.Text after → at ≡ begins_behind before first → u ≡ para (first ∷ others) → EndWhole before → IsOfLines ls at u
-text_of_lines ls at u before first others after e c b a o begins is w =
-    let t : TextLine 0 ls before first (others ++ after) = text_line ls 0 before first (others ++ after) e a.0 w in
+    → AllTrue (open_after [] before) → EndOtherwise line.Text before → AllAre line.Text others → BeginOtherwise line.Text after → at ≡ begins_behind before first
+    → u ≡ para (first ∷ others) → TextLine 0 ls before first (others ++ after) → IsOfLines ls at u
+text_of_lines ls at u before first others after c b a o begins is t =
     let n : ℕ = tables_behind 0 t.before in
-    let m : TextLines n t.behind_it others after = text_lines others n t.behind_it after a.1 t.rest_is in
+    let m : TextLines n t.behind_it others after = text_lines others n t.behind_it after a t.rest_is in
     let rows_are : first ∷ others ≡ map text_row (t.text ∷ m.texts) = ap₂ (λ (x : Row) (xs : List Row). x ∷ xs) t.row_is m.rows_are in
     let z : at ≡ begins_at t.before t.text =
     omega (arith, begins, ap width t.front_is, written_size 0 t.before, ap (λ (r : Row). size r.lead) t.row_is) in
@@ -95,6 +83,60 @@ text_of_lines ls at u before first others after e c b a o begins is w =
     (subst (λ (rs : List Row). AllTrue (open_after [] rs)) (sym t.front_is) c)
     (subst EndApart (sym t.front_is) (end_apart before b))
     (t.is_text, all_of_text n m.texts m.are_text)
+    (subst BeginApart (sym m.rest_is) (begin_apart after o))
+    z (is ∙ ap para rows_are)
+
+-- ---- text behind a sign
+
+-- the sign's row is the items of the sign
+sign_items : (k : LineKind) (lead len : ℕ) (l : List Item) → all_items (sign_row k lead len l [] ∷ []) ≡ take lead l ++ take len (drop lead l)
+sign_items k lead len l =
+    append-nil (take lead l ++ (take len (drop lead l) ++ [])) ∙ ap (λ (xs : List Item). take lead l ++ xs) (append-nil (take len (drop lead l)))
+
+-- the rows of its lines, up to and with the sign's
+signed_size : (ls : Lines) (x : Row) (front : List Row) → written_rows 0 ls ++ x ∷ [] ≡ front → width front ≡ size (joined ls) + size (all_items (x ∷ []))
+signed_size ls x front e = omega (arith, ap width (sym e), width_both (written_rows 0 ls) (x ∷ []), written_size 0 ls)
+
+signed_cells : (ls : Lines) (x : Row) (k : LineKind) (front : List Row) → written_rows 0 ls ++ x ∷ [] ≡ front → x.kind ≡ k → AllTrue (open_after [] front)
+    → AllTrue (open_behind (open_after [] (written_rows 0 ls)) k)
+signed_cells ls x k front e f h =
+    subst (λ (j : LineKind). AllTrue (open_behind (open_after [] (written_rows 0 ls)) j)) f
+    (subst AllTrue (open_both [] (written_rows 0 ls) (x ∷ [])) (subst (λ (rs : List Row). AllTrue (open_after [] rs)) (sym e) h))
+
+signed_lines : (ls : Lines) (at : ℕ) (u : ItemTree) (before : List Row) (first : Row) (others after : List Row)
+    → AllTrue (open_after [] before) → AllAre line.Text others → BeginOtherwise line.Text after → at ≡ begins_behind before first
+    → u ≡ para (first ∷ others) → (t : SignedLine 0 ls before first (others ++ after)) → SignShape (kind_at (tables_behind 0 t.before) t.own) t.own t.sign first
+    → IsOfLines ls at u
+signed_lines ls at u before first others after c a o begins is t (an_end k seen x y) =
+    let n : ℕ = behind (tables_behind 0 t.before) line.TableEnd in
+    let rest : rows_from n t.behind_it ≡ others ++ after =
+    sym (ap (λ (j : LineKind). rows_from (behind (tables_behind 0 t.before) j) t.behind_it) k) ∙ t.rest_is in
+    let m : TextLines n t.behind_it others after = text_lines others n t.behind_it after a rest in
+    let rows_are : first ∷ others ≡ map text_row (past_end t.own ∷ m.texts) = ap₂ (λ (r : Row) (rs : List Row). r ∷ rs) y m.rows_are in
+    let sign_size : size (all_items (t.sign ∷ [])) ≡ size (end_sign t.own) =
+    ap (λ (r : Row). size (all_items (r ∷ []))) x ∙ ap size (sign_items line.TableEnd (idle_len t.own) 2 t.own) in
+    let z : at ≡ begins_past t.before (end_sign t.own) (past_end t.own) =
+    omega (arith, begins, signed_size t.before t.sign before t.front_is, sign_size, ap (λ (r : Row). size r.lead) y) in
+    behind_an_end t.before t.own m.texts m.behind_them
+    (t.are ∙ ap (λ (ms : Lines). t.before ++ t.own ∷ ms) m.are) k seen
+    (signed_cells t.before t.sign line.TableEnd before t.front_is (ap (λ (r : Row). r.kind) x) c)
+    (all_of_text n m.texts m.are_text)
+    (subst BeginApart (sym m.rest_is) (begin_apart after o))
+    z (is ∙ ap para rows_are)
+signed_lines ls at u before first others after c a o begins is t (a_rule k seen x y) =
+    let n : ℕ = tables_behind 0 t.before in
+    let rest : rows_from n t.behind_it ≡ others ++ after =
+    sym (ap (λ (j : LineKind). rows_from (behind n j) t.behind_it) k) ∙ t.rest_is in
+    let m : TextLines n t.behind_it others after = text_lines others n t.behind_it after a rest in
+    let rows_are : first ∷ others ≡ map text_row (past_rule t.own ∷ m.texts) = ap₂ (λ (r : Row) (rs : List Row). r ∷ rs) y m.rows_are in
+    let sign_size : size (all_items (t.sign ∷ [])) ≡ size (rule_sign t.own) =
+    ap (λ (r : Row). size (all_items (r ∷ []))) x ∙ ap size (sign_items line.Rule (marks_len t.own) (rule_len t.own) t.own) in
+    let z : at ≡ begins_past t.before (rule_sign t.own) (past_rule t.own) =
+    omega (arith, begins, signed_size t.before t.sign before t.front_is, sign_size, ap (λ (r : Row). size r.lead) y) in
+    behind_a_rule t.before t.own m.texts m.behind_them
+    (t.are ∙ ap (λ (ms : Lines). t.before ++ t.own ∷ ms) m.are) k seen
+    (signed_cells t.before t.sign line.Rule before t.front_is (ap (λ (r : Row). r.kind) x) c)
+    (all_of_text n m.texts m.are_text)
     (subst BeginApart (sym m.rest_is) (begin_apart after o))
     z (is ∙ ap para rows_are)
 
@@ -233,11 +275,11 @@ head_of_line ls at u before r after e c k begins is =
 
 pub rows_to_lines : (ls : Lines) (at : ℕ) (u : ItemTree) → IsOfRows (rows_from 0 ls) at u → IsOfLines ls at u
 rows_to_lines ls at u (of_heading before r after e c k begins is) = head_of_line ls at u before r after e c k begins is
-rows_to_lines ls at u (of_text before first others after e c b a o begins is) = by (whole_decided before)
+rows_to_lines ls at u (of_text before first others after e c b a o begins is) = by (row_line ls 0 before first (others ++ after) e a.0)
   where
-    by : EndWhole before ⊎ (EndWhole before → ⊥) → IsOfLines ls at u
-    by (inl w) = text_of_lines ls at u before first others after e c b a o begins is w
-    by (inr nay) = behind_a_sign before first others after e nay begins is
+    by : IsOnLine 0 ls before first (others ++ after) → IsOfLines ls at u
+    by (inl t) = text_of_lines ls at u before first others after c b a.1 o begins is t
+    by (inr t) = signed_lines ls at u before first others after c a.1 o begins is t t.shape
 
 pub block_on_lines : (pages : Pages) (page p : List ℕ) (t : Tree) → IsUtf8 page → refusal_of_page pages page ≡ None
     → IsReachedAt p (called_tree pages page) t → IsTextBlock (label t).kind → StandsOnLines pages page t

@@ -81,6 +81,10 @@ written_both n (l ∷ xs) ys =
     ap (λ (rs : List Row). line_rows k l ++ rs) (written_both (behind n k) xs ys)
     ∙ sym (append_assoc (line_rows k l) (written_rows (behind n k) xs) (written_rows (tables_behind (behind n k) xs) ys))
 
+pub tables_both : (n : ℕ) (xs ys : Lines) → tables_behind n (xs ++ ys) ≡ tables_behind (tables_behind n xs) ys
+tables_both n [] ys = refl
+tables_both n (l ∷ xs) ys = tables_both (behind n (kind_at n l)) xs ys
+
 -- the tables that are open behind lines
 abbrev pub after : List Bool → Lines → List Bool
 after bs xs = open_after bs (written_rows (length bs) xs)

@@ -40,7 +40,7 @@ use Rattle.wt_beside_laws.proofs.Derived.BlockContents.{BlockSeen, seen_with, se
 use Rattle.wt_beside_laws.proofs.Derived.BodyRead.{parts_are}
 use Rattle.wt_called_edit_laws.specs.AllTold.{IsBesideTexts}
 use Rattle.wt_called_edit_laws.specs.LinedAmong.{AreOfPage, AreBeside}
-use Rattle.wt_called_edit_laws.specs.PlacedLines.{LinedBlock, all_lines}
+use Rattle.wt_called_edit_laws.specs.PlacedLines.{LinedBlock, lead_of, all_lines}
 use Rattle.wt_called_edit_laws.specs.ToldLines.{Told, lined}
 use Rattle.wt_called_edit_laws.proofs.Among.BlockAt.{calls_of, IsRest, text_to, IsPast, BeginsOwn, past_before, IsPastOwn, past_own, beside_first, beside_front}
 use Rattle.wt_called_edit_laws.proofs.Among.Flattened.{flat, flat_all, items_append, page_members}
@@ -162,7 +162,7 @@ pub record IsOwnBlock (pages : Pages) (page : List ℕ) (o : Told) (rest : Lines
   pub own : AreOfPage (own_items (lined o))
   pub first : 1 ≤ length (lined o).first
   pub some : 1 ≤ length (content (own_items (lined o)))
-  pub led : IsLedTo (text_from (expanded_page pages page).outer None (joined (lined o).before ++ (lined o).marks)) (lined o).block (lined o).text
+  pub led : IsLedTo (text_from (expanded_page pages page).outer None (joined (lined o).before ++ lead_of (lined o))) (lined o).block (lined o).text
   pub beside : IsBesideTexts (expanded_page pages page) (joined (lined o).before) o
   pub seen : BlockSeen (content (own_items (lined o)))
   pub source : source_of (lined o).block (lined o).text ≡ sources (content (own_items (lined o)))
@@ -233,7 +233,7 @@ calls_nothing pages page o rest h =
     let mine : AreOfPage os = of_front os (ending own) (subst AreOfPage (sym (content_ending own)) h.own) in
     let less = sources_size os (ending own) in
     let same = ap (λ (zs : List Item). length (sources zs)) (content_ending own) in
-    let n : ℕ = length (text_from calls None (joined b.before ++ b.marks)) in
+    let n : ℕ = length (text_from calls None (joined b.before ++ lead_of b)) in
     let z : n ≡ 0 + n = omega arith in
     let beside : AreBeside (0 + n) ((0 + n) + length (sources own)) (expanded_page pages page).text_calls =
     subst (λ (m : ℕ). AreBeside m (m + length (sources own)) (expanded_page pages page).text_calls) z h.beside in

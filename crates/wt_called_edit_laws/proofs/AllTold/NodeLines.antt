@@ -33,15 +33,15 @@ use Rattle.wt_text_edit_laws.specs.ParagraphBetween.{written_rows, tables_behind
 use Rattle.wt_text_edit_laws.specs.TextBlocks.{TextBlock, a_paragraph, a_heading, block_of}
 use Rattle.wt_text_edit_laws.specs.TypedHeadings.{Sides}
 use Rattle.wt_text_edit_laws.proofs.Cuts.RowLines.{AllText}
-use Rattle.wt_called_edit_laws.specs.AllTold.{text_on_a_sign}
+use Rattle.wt_called_edit_laws.specs.AllTold.{text_on_a_rule}
 use Rattle.wt_called_edit_laws.specs.AnyBlocks.{open_after}
 use Rattle.wt_called_edit_laws.specs.CalledContents.{tree_round}
-use Rattle.wt_called_edit_laws.specs.CallingTold.{IsExceptedByLines}
+use Rattle.wt_called_edit_laws.specs.CallingTold.{IsExceptedSigned, untold, text_on_an_end}
 use Rattle.wt_called_edit_laws.specs.Groups.{called_tree}
 use Rattle.wt_called_edit_laws.specs.LinedHeadings.{sides_of, IsLinedHeading}
 use Rattle.wt_called_edit_laws.specs.PlacedBlocks.{AreLinesAt}
-use Rattle.wt_called_edit_laws.specs.PlacedLines.{LinedBlock, all_lines}
-use Rattle.wt_called_edit_laws.specs.RowBlocks.{IsTextBlock, IsReachedAt, StandsIn, node_between, text_row, begins_at, AreOfText, IsOfLines, of_lines, of_line, behind_a_sign, StandsOnLines}
+use Rattle.wt_called_edit_laws.specs.PlacedLines.{LinedBlock, lead_of, all_lines}
+use Rattle.wt_called_edit_laws.specs.RowBlocks.{IsTextBlock, IsReachedAt, StandsIn, node_between, text_row, opened_len, begins_at, AreOfText, IsOfLines, of_lines, of_line, behind_an_end, behind_a_rule, StandsOnLines}
 use Rattle.wt_called_edit_laws.specs.ToldLines.{Told, a_paragraph_of, a_heading_on, lined, IsToldAt, AreTold}
 use Rattle.wt_called_edit_laws.specs.ToldTogether.{start_of, told_starts, IsAmongNumbers}
 use Rattle.wt_called_edit_laws.proofs.BlockTexts.{clean_flat}
@@ -50,7 +50,7 @@ use Rattle.wt_called_edit_laws.proofs.TextsMake.{flat_same}
 use Rattle.wt_called_edit_laws.proofs.AllTold.Chosen.{less_or}
 use Rattle.wt_called_edit_laws.proofs.AllTold.ChosenLines.{ones_front, ones_behind}
 use Rattle.wt_called_edit_laws.proofs.AllTold.ClosedLines.{AllPast, heading_size, para_size}
-use Rattle.wt_called_edit_laws.proofs.AllTold.Complete.{some_past, tables_same, text_all, text_lines_at, past_unled, first_unled, all_past}
+use Rattle.wt_called_edit_laws.proofs.AllTold.Complete.{some_past, all_past}
 use Rattle.wt_called_edit_laws.proofs.AllTold.Found.{size, tree_size, size_both}
 use Rattle.wt_called_edit_laws.proofs.AllTold.HeadSigns.{head_begins}
 use Rattle.wt_called_edit_laws.proofs.AllTold.LineBlocks.{block_on_lines}
@@ -62,6 +62,7 @@ use Rattle.wt_called_edit_laws.proofs.AllTold.OwnNodes.{same_walk, between_same}
 use Rattle.wt_called_edit_laws.proofs.AllTold.OwnTrees.{IsRoundOf, paragraph_of, heading_of}
 use Rattle.wt_called_edit_laws.proofs.AllTold.Scans.{Decided, Answered, text_told, heading_told, behind_lines, behind_joined}
 use Rattle.wt_called_edit_laws.proofs.AllTold.Scanned.{Meets, without_before, Scan}
+use Rattle.wt_called_edit_laws.proofs.AllTold.TextFacts.{tables_same, text_all, text_lines_at, past_unled, first_unled}
 
 -- ---- which lines are meant
 
@@ -72,10 +73,11 @@ IsOfKind a_paragraph (a_heading s) = ⊥
 IsOfKind (a_heading s) a_paragraph = ⊥
 IsOfKind (a_heading s) (a_heading z) = Unit {0}
 
--- as many items before it, in its marks and on its lines, as this block has
+-- behind no sign, and as many items before it, in its marks and on its lines, as this block has
 pub record IsSameCut (front : List Item) (t o : Told) : Type 0 where
   pub before : length front ≡ length (joined (lined o).before)
-  pub marks : length (lined t).marks ≡ length (lined o).marks
+  pub unsigned : length (lined t).sign ≡ 0
+  pub marks : length (lead_of (lined t)) ≡ length (lead_of (lined o))
   pub own : length (own_items (lined t)) ≡ length (own_items (lined o))
   pub kind : IsOfKind (lined t).block (lined o).block
 
@@ -100,16 +102,18 @@ kind_decided (a_heading s) (a_heading z) = inl tt
 
 cut_decided : (front : List Item) (t o : Told) → Decided (IsSameCut front t o)
 cut_decided front t o =
-    by (number_decided (length front) (length (joined (lined o).before))) (number_decided (length (lined t).marks) (length (lined o).marks))
+    by (number_decided (length front) (length (joined (lined o).before))) (number_decided (length (lined t).sign) 0) (number_decided (length (lead_of (lined t))) (length (lead_of (lined o))))
     (number_decided (length (own_items (lined t))) (length (own_items (lined o)))) (kind_decided (lined t).block (lined o).block)
   where
-    by : Decided (length front ≡ length (joined (lined o).before)) → Decided (length (lined t).marks ≡ length (lined o).marks)
+    by : Decided (length front ≡ length (joined (lined o).before)) → Decided (length (lined t).sign ≡ 0)
+        → Decided (length (lead_of (lined t)) ≡ length (lead_of (lined o)))
         → Decided (length (own_items (lined t)) ≡ length (own_items (lined o))) → Decided (IsOfKind (lined t).block (lined o).block) → Decided (IsSameCut front t o)
-    by (inl a) (inl b) (inl c) (inl d) = inl (record { before = a; marks = b; own = c; kind = d })
-    by (inr f) b c d = inr (λ h. f h.before)
-    by (inl a) (inr f) c d = inr (λ h. f h.marks)
-    by (inl a) (inl b) (inr f) d = inr (λ h. f h.own)
-    by (inl a) (inl b) (inl c) (inr f) = inr (λ h. f h.kind)
+    by (inl a) (inl u) (inl b) (inl c) (inl d) = inl (record { before = a; unsigned = u; marks = b; own = c; kind = d })
+    by (inr f) u b c d = inr (λ h. f h.before)
+    by (inl a) (inr f) b c d = inr (λ h. f h.unsigned)
+    by (inl a) (inl u) (inr f) c d = inr (λ h. f h.marks)
+    by (inl a) (inl u) (inl b) (inr f) d = inr (λ h. f h.own)
+    by (inl a) (inl u) (inl b) (inl c) (inr f) = inr (λ h. f h.kind)
 
 pub among_decided : (os : List Told) → Answered (cut_among os)
 among_decided [] front t = inr (λ h. h)
@@ -128,14 +132,14 @@ abbrev pub IsIn : Told → List Told → Type 0
 IsIn t [] = ⊥
 IsIn t (o ∷ os) = (t ≡ o) ⊎ IsIn t os
 
-same_cut : (o : Told) → IsSameCut (behind_lines [] (lined o).before) (without_before o) o
-same_cut (a_paragraph_of b m f r) = record { before = ap length (behind_joined [] b); marks = refl; own = refl; kind = tt }
-same_cut (a_heading_on b m l) = record { before = ap length (behind_joined [] b); marks = refl; own = refl; kind = tt }
+same_cut : (o : Told) → (lined o).sign ≡ [] → IsSameCut (behind_lines [] (lined o).before) (without_before o) o
+same_cut (a_paragraph_of b s m f r) e = record { before = ap length (behind_joined [] b); unsigned = ap length e; marks = refl; own = refl; kind = tt }
+same_cut (a_heading_on b m l) e = record { before = ap length (behind_joined [] b); unsigned = refl; marks = refl; own = refl; kind = tt }
 
-pub meets_among : (o : Told) (os : List Told) → IsIn o os → Meets (cut_among os) [] o
-meets_among o [] h = absurd h
-meets_among o (u ∷ us) (inl e) = inl (subst (IsSameCut (behind_lines [] (lined o).before) (without_before o)) e (same_cut o))
-meets_among o (u ∷ us) (inr h) = inr (meets_among o us h)
+pub meets_among : (o : Told) (os : List Told) → (lined o).sign ≡ [] → IsIn o os → Meets (cut_among os) [] o
+meets_among o [] n h = absurd h
+meets_among o (u ∷ us) n (inl e) = inl (subst (IsSameCut (behind_lines [] (lined o).before) (without_before o)) e (same_cut o n))
+meets_among o (u ∷ us) n (inr h) = inr (meets_among o us n h)
 
 -- ---- the lines of a node
 
@@ -143,6 +147,7 @@ meets_among o (u ∷ us) (inr h) = inr (meets_among o us h)
 pub record NodeLines (pages : Pages) (page : List ℕ) (t : Tree) : Type 0 where
   pub stands : StandsIn pages page t
   pub told : Told
+  pub unsigned : (lined told).sign ≡ []
   pub rest : Lines
   pub are : full_lines (expanded_page pages page).items ≡ all_lines (lined told ∷ []) rest
   pub lines : AreTold (told ∷ []) rest
@@ -153,7 +158,7 @@ pub record NodeLines (pages : Pages) (page : List ℕ) (t : Tree) : Type 0 where
   pub found : (os : List Told) (sc : Scan (cut_among os) [] [] false (full_lines (expanded_page pages page).items)) → Meets (cut_among os) [] told
       → IsAmongNumbers (start_of 0 told) (told_starts 0 sc.ts)
 
-begins_so : (before : Lines) (l : List Item) (o : Told) → (lined o).before ≡ before → (lined o).marks ≡ led_by l → begins_at before l ≡ start_of 0 o
+begins_so : (before : Lines) (l : List Item) (o : Told) → (lined o).before ≡ before → lead_of (lined o) ≡ led_by l → begins_at before l ≡ start_of 0 o
 begins_so before l o e f = omega (arith, ap (λ (ls : Lines). size (joined ls)) e, ap size f)
 
 of_para : (k : TextBlock) → kind_of (block_of k) ≡ kind.Para → IsOfKind a_paragraph k
@@ -164,8 +169,13 @@ of_head : (s : Sides) (k : TextBlock) → is_para (kind_of (block_of k)) ≡ fal
 of_head s a_paragraph e = let wrong : true ≡ false = e in absurd (cc)
 of_head s (a_heading z) e = tt
 
+-- or it is one that lines don't tell, or is behind the sign of a table's end
+pub record IsUntold (pages : Pages) (page : List ℕ) (t : Tree) : Type 0 where
+  pub stands : StandsIn pages page t
+  pub by_lines : IsExceptedSigned (full_lines (expanded_page pages page).items) (opened_len stands.before)
+
 abbrev Answer : Pages → List ℕ → Tree → Type 0
-Answer pages page t = NodeLines pages page t ⊎ IsExceptedByLines pages page t
+Answer pages page t = NodeLines pages page t ⊎ IsUntold pages page t
 
 text_lines : (pages : Pages) (page : List ℕ) (t : Tree) → (s : StandsIn pages page t) (before : Lines) (first : List Item) (others behind : Lines)
     → full_lines (expanded_page pages page).items ≡ before ++ ((first ∷ others) ++ behind) → AllTrue (open_after [] (written_rows 0 before)) → EndApart (written_rows 0 before)
@@ -196,7 +206,7 @@ text_lines pages page t s before first others behind are cells apart texts stops
     unled = first_unled (past_marks first) (joined others) seen.0 (past_unled first)
 
     told : IsToldAt [] o
-    told = record { are_marks = led_marks first; some = seen.0; in_cells = cells; apart = apart; own = (own, unled) }
+    told = record { sign = tt; unclosed = tt; are_marks = led_marks first; some = seen.0; in_cells = cells; apart = apart; own = (own, unled) }
 
     behind_apart : BeginApart (rows_from m behind)
     behind_apart = subst (λ (j : ℕ). BeginApart (rows_from j behind)) (tables_same before) stops
@@ -220,6 +230,7 @@ text_lines pages page t s before first others behind are cells apart texts stops
     by = record {
       stands = s;
       told = o;
+      unsigned = refl;
       rest = behind;
       are = are ∙ ap (λ (l : List Item). before ++ ((l ∷ others) ++ behind)) (sym (led_whole first));
       lines = (told, behind_apart);
@@ -258,7 +269,7 @@ heading_line pages page t utf8 unrefused s before own behind are cells line_kind
     head = record { is_heading = kind_led m own seen ∙ here; first = head_begins pages page before own behind utf8 unrefused are m here seen }
 
     told : IsToldAt [] o
-    told = record { are_marks = led_marks own; some = seen; in_cells = cells; apart = tt; own = head }
+    told = record { sign = tt; unclosed = tt; are_marks = led_marks own; some = seen; in_cells = cells; apart = tt; own = head }
 
     one : l ++ [] ≡ l
     one = append-nil l
@@ -279,6 +290,7 @@ heading_line pages page t utf8 unrefused s before own behind are cells line_kind
     by = record {
       stands = s;
       told = o;
+      unsigned = refl;
       rest = behind;
       are = are ∙ ap (λ (k : List Item). before ++ k ∷ behind) (sym (led_whole own));
       lines = (told, tt);
@@ -296,11 +308,13 @@ by_lines pages page t u r s (of_lines before first others behind are cells apart
     inl (text_lines pages page t s before first others behind are cells apart texts stops at tree_is)
 by_lines pages page t u r s (of_line before own behind are cells line_kind at tree_is) =
     inl (heading_line pages page t u r s before own behind are cells line_kind at tree_is)
-by_lines pages page t u r s (behind_a_sign before first others behind are unended at tree_is) =
-    inr (record { stands = s; by_lines = text_on_a_sign before first others behind are unended at })
+by_lines pages page t u r s (behind_an_end before own others behind are line_kind seen cells texts stops at tree_is) =
+    inr (record { stands = s; by_lines = text_on_an_end before own others behind are line_kind seen at })
+by_lines pages page t u r s (behind_a_rule before own others behind are line_kind seen cells texts stops at tree_is) =
+    inr (record { stands = s; by_lines = untold (text_on_a_rule before own (others ++ behind) are line_kind seen at) })
 
 pub node_lines : (pages : Pages) (page p : List ℕ) (t : Tree) → IsUtf8 page → refusal_of_page pages page ≡ None → IsReachedAt p (called_tree pages page) t
-    → IsTextBlock (label t).kind → NodeLines pages page t ⊎ IsExceptedByLines pages page t
+    → IsTextBlock (label t).kind → NodeLines pages page t ⊎ IsUntold pages page t
 node_lines pages page p t u r e b =
     let s : StandsOnLines pages page t = block_on_lines pages page p t u r e b in
     by_lines pages page t u r s.stands s.by_lines

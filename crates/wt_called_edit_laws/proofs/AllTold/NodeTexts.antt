@@ -20,10 +20,11 @@ use Rattle.wt_page.specs.Lines.{kind_at, ending}
 use Rattle.wt_called_edit_laws.proofs.Among.FirstItems.{OwnFilled, items_filled, filled_behind}
 use Rattle.wt_page.proofs.Ends.{content_ending}
 use Rattle.wt_tables.specs.Parts.{joined}
+use Rattle.wt_called_edit_laws.proofs.AllTold.TextFacts.{seen_shown}
 use Rattle.wt_called_edit_laws.proofs.AllTold.ToldStarts.{blank_is}
 use Rattle.wt_called_edit_laws.specs.AllTold.{IsBesideTexts}
 use Rattle.wt_called_edit_laws.specs.LinedAmong.{AreOfPage, AreBeside}
-use Rattle.wt_called_edit_laws.specs.PlacedLines.{LinedBlock, all_lines}
+use Rattle.wt_called_edit_laws.specs.PlacedLines.{LinedBlock, lead_of, all_lines}
 use Rattle.wt_called_edit_laws.specs.RowBlocks.{StandsIn, node_between}
 use Rattle.wt_called_edit_laws.specs.ToldLines.{Told, a_paragraph_of, a_heading_on, lined, OwnTold}
 use Rattle.wt_called_edit_laws.specs.ToldTogether.{start_of}
@@ -67,7 +68,7 @@ node_texts pages page t s o rest u r are free ended mine at own_len some =
     let e : Expanded = expanded_page pages page in
     let calls : List OuterCall = e.outer in
     let b : LinedBlock = lined o in
-    let fs : List Item = joined b.before ++ b.marks in
+    let fs : List Item = joined b.before ++ lead_of b in
     let own : List Item = own_items b in
     let cs : List Item = content own in
     let es : List Item = ending own in
@@ -79,7 +80,7 @@ node_texts pages page t s o rest u r are free ended mine at own_len some =
     let texts : AreTextsIn calls None 0 ((fs ++ cs) ++ (es ++ zs)) e.text_calls =
     subst (λ (xs : List Item). AreTextsIn calls None 0 xs e.text_calls) cut (page_texts pages page) in
     let node : List Item = s.before ++ tree_items s.block in
-    let count : start_of 0 o ≡ size fs = omega (arith, size_both (joined b.before) b.marks) in
+    let count : start_of 0 o ≡ size fs = omega (arith, size_both (joined b.before) (lead_of b)) in
     let whole : tree_items (meaning e.items) ≡ node ++ s.behind = s.whole ∙ sym (append_assoc s.before (tree_items s.block) s.behind) in
     let sizes : size node ≡ size (fs ++ cs) =
     omega (arith, at, count, own_len, size_both s.before (tree_items s.block), size_both fs cs, sym (size_both cs es) ∙ ap size (content_ending own)) in
@@ -117,8 +118,9 @@ some_content n (x ∷ y ∷ zs) ls some shown = omega arith
 
 -- so has a line of text, and one of a heading's kind
 pub told_content : (t : Told) (n : ℕ) → 1 ≤ length (lined t).first → OwnTold t n → 1 ≤ length (content (own_items (lined t)))
-told_content (a_paragraph_of before marks first more) n some h =
+told_content (a_paragraph_of before [] marks first more) n some h =
     some_content n first more some (λ w. let wrong : line.Blank ≡ line.Text = sym w ∙ h.0.0 in absurd (cc))
+told_content (a_paragraph_of before (s ∷ ss) marks first more) n some h = some_content n first more some (λ w. seen_shown n first h.0.0 w)
 told_content (a_heading_on before marks l) n some h =
     some_content n l [] some (λ w. let wrong : line.Blank ≡ line.Heading = sym w ∙ h.is_heading in absurd (cc))
 
@@ -137,7 +139,7 @@ pub content_bytes : (pages : Pages) (page : List ℕ) (o : Told) (rest : Lines) 
 content_bytes pages page o rest n are some shown mine =
     let b : LinedBlock = lined o in
     let own : List Item = own_items b in
-    let front : List Item = joined b.before ++ b.marks in
+    let front : List Item = joined b.before ++ lead_of b in
     let tail : List Item = ending own ++ joined rest in
     let all : (expanded_page pages page).items ≡ front ++ (content own ++ tail) =
     page_joined pages page (all_lines (b ∷ []) rest) are ∙ lines_joined b rest

@@ -37,7 +37,7 @@ use Rattle.wt_beside_laws.proofs.Derived.NodesHave.{full_nodes}
 use Rattle.wt_beside_laws.proofs.Made.OwnPages.{content_ordinary}
 use Rattle.wt_called_edit_laws.specs.AllTold.{starts_in}
 use Rattle.wt_called_edit_laws.specs.Groups.{called_tree}
-use Rattle.wt_called_edit_laws.specs.PlacedLines.{LinedBlock, all_lines}
+use Rattle.wt_called_edit_laws.specs.PlacedLines.{LinedBlock, all_lines, lead_of}
 use Rattle.wt_called_edit_laws.specs.RowBlocks.{IsTextBlock, IsReachedIn, StandsIn, node_between}
 use Rattle.wt_called_edit_laws.specs.ToldLines.{Told, lined}
 use Rattle.wt_called_edit_laws.specs.ToldTogether.{start_of}
@@ -160,11 +160,11 @@ known_node pages page i is t n s o rest h tree_so at =
     let a : IsAloneRead pages page o =
     alone_read pages page o rest h here (λ r e. free_of k q (free_alone pages page i is t n s k q (tree_so (own_round pages page o rest here r.is e)) r).0) in
     let known = free_alone pages page i is t n s k q (tree_so (own_round pages page o rest here a.is_content.is a.items)) a.read in
-    let front : List Item = joined b.before ++ b.marks in
+    let front : List Item = joined b.before ++ lead_of b in
     let parts = rest_is items [] o rest (page_joined pages page (all_lines (b ∷ []) rest) h.are) in
     let more : List Item = own_items b ++ joined rest in
-    let whole : items ≡ front ++ more = parts.0 ∙ ap (λ (zs : List Item). (zs ++ b.marks) ++ more) (behind_joined [] b.before) in
-    let count : start_of 0 o ≡ size front = omega (arith, size_both (joined b.before) b.marks) in
+    let whole : items ≡ front ++ more = parts.0 ∙ ap (λ (zs : List Item). (zs ++ lead_of b) ++ more) (behind_joined [] b.before) in
+    let count : start_of 0 o ≡ size front = omega (arith, size_both (joined b.before) (lead_of b)) in
     let text_is : text_from calls None s.before ≡ text_from calls None front = text_before pages page t s front more n.utf8 n.unrefused whole (at ∙ count) in
     let first : length (text_from calls None front) ≡ starts_in 0 i is (children (called_tree pages page)) =
     ap length (sym text_is) ∙ sym (between_begins calls s.number s.before s.block s.behind) ∙ ap (λ (u : Tree). first_byte (label u).ranges) (sym s.is)

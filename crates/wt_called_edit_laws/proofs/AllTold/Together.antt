@@ -1,5 +1,5 @@
 -- All blocks that the lines of an expanded page tell are told at once.
-use Rattle.std.proofs.Common.{arith, ◌≡◌, ◌≤◌, ℕ, suc, ◌+◌, Bool, true, false, None, List, [], ◌∷◌, ◌++◌, length, take, drop, map, refl, sym, ap, ◌∙◌, subst, cond, codes}
+use Rattle.std.proofs.Common.{arith, ◌≡◌, ◌≤◌, ℕ, suc, ◌+◌, Bool, true, false, None, List, [], ◌∷◌, ◌++◌, length, take, drop, map, refl, sym, ap, ◌∙◌, subst, cond, append_assoc, codes}
 use Rattle.std.specs.Prelude.{◌&&◌}
 use Rattle.std.specs.Str.{IsUtf8}
 use Rattle.std.specs.List.{list_all}
@@ -10,19 +10,26 @@ use Rattle.wt_expand.specs.Work.{Pages}
 use Rattle.wt_commands.specs.Answers.{refusal_of_page}
 use Rattle.wt_lines.specs.Lines.{content, full_lines}
 use Rattle.wt_tables.specs.Parts.{joined}
-use Rattle.wt_page.specs.Rows.{marks_len, signs}
+use Rattle.wt_lines.specs.declared.kind.LineKind.TheVariants as line
+use Rattle.wt_page.specs.Lines.{kind_at}
+use Rattle.wt_page.specs.Rows.{marks_len, signs, rows_from}
+use Rattle.wt_text_edit_laws.specs.ParagraphBetween.{tables_behind, BeginApart}
 use Rattle.wt_text_edit_laws.proofs.Paragraphs.Marks.{mark_sign}
 use Rattle.wt_called_edit_laws.specs.PlacedLines.{all_lines, AreLined}
+use Rattle.wt_called_edit_laws.specs.RowBlocks.{past_end}
+use Rattle.wt_called_edit_laws.specs.TableEnds.{IsEndSign}
 use Rattle.wt_called_edit_laws.specs.ToldAmong.{IsToldAmong}
 use Rattle.wt_called_edit_laws.specs.ToldLines.{Told, a_paragraph_of, a_heading_on, lined, IsToldAt, AreTold}
 use Rattle.wt_called_edit_laws.specs.ToldTogether.{start_of, told_starts, IsAmongNumbers, AreSome}
 use Rattle.wt_called_edit_laws.proofs.Among.ToldAmong.{all_told}
 use Rattle.wt_called_edit_laws.proofs.AllTold.Chosen.{IsChosen, chosen, chosen_decided}
 use Rattle.wt_called_edit_laws.proofs.AllTold.ChosenLines.{meets_so, known_lines, known_closed, in_no_group}
-use Rattle.wt_called_edit_laws.proofs.AllTold.LineKinds.{Lines, led_by, past_marks}
-use Rattle.wt_called_edit_laws.proofs.AllTold.Scans.{ToldFrom}
-use Rattle.wt_called_edit_laws.proofs.AllTold.Scanned.{AllMeet, Scan, scan}
+use Rattle.wt_called_edit_laws.proofs.AllTold.EndSigns.{SignOf, sign_of, end_line, page_signs}
+use Rattle.wt_called_edit_laws.proofs.AllTold.LineKinds.{Lines, led_by, past_marks, after}
+use Rattle.wt_called_edit_laws.proofs.AllTold.Scans.{tables_at, sign_told, ToldFrom}
+use Rattle.wt_called_edit_laws.proofs.AllTold.Scanned.{AllMeet, Meets, Scan, scan}
 use Rattle.wt_called_edit_laws.proofs.AllTold.ToldStarts.{are_own}
+use Rattle.wt_called_edit_laws.proofs.Cells.SpotSlots.{open_size}
 
 -- ---- the marks that begin a line
 
@@ -85,16 +92,16 @@ record IsAlone (pages : Pages) (page : List ℕ) (t : Told) (rest : Lines) : Typ
   here : IsChosen pages page (joined (lined t).before) t
 
 alone_text : (pages : Pages) (page : List ℕ) (s : Scan (chosen pages page) [] [] false (full_lines (expanded_page pages page).items)) (b : Lines) (m f : List Item)
-    (r rest : Lines) → IsAlone pages page (a_paragraph_of b m f r) rest → Parted m f → IsAmongNumbers (start_of 0 (a_paragraph_of b m f r)) (told_starts 0 s.ts)
+    (r rest : Lines) → IsAlone pages page (a_paragraph_of b [] m f r) rest → Parted m f → IsAmongNumbers (start_of 0 (a_paragraph_of b [] m f r)) (told_starts 0 s.ts)
 alone_text pages page s b m f r rest h p =
-    let told : IsToldAt [] (a_paragraph_of b (led_by (m ++ f)) (past_marks (m ++ f)) r) =
-    subst (λ (k : List Item). IsToldAt [] (a_paragraph_of b k (past_marks (m ++ f)) r)) (sym p.led)
-    (subst (λ (k : List Item). IsToldAt [] (a_paragraph_of b m k r)) (sym p.past) h.told.0) in
-    let here : IsChosen pages page (joined b) (a_paragraph_of b (led_by (m ++ f)) (past_marks (m ++ f)) r) =
-    subst (λ (k : List Item). IsChosen pages page (joined b) (a_paragraph_of b k (past_marks (m ++ f)) r)) (sym p.led)
-    (subst (λ (k : List Item). IsChosen pages page (joined b) (a_paragraph_of b m k r)) (sym p.past) h.here) in
-    subst (λ (k : List Item). IsAmongNumbers (start_of 0 (a_paragraph_of b k f r)) (told_starts 0 s.ts)) p.led
-    (s.texts 0 b (m ++ f) r rest h.are told h.told.1 (λ z. refl) (meets_so pages page (a_paragraph_of b (led_by (m ++ f)) (past_marks (m ++ f)) r) here))
+    let told : IsToldAt [] (a_paragraph_of b [] (led_by (m ++ f)) (past_marks (m ++ f)) r) =
+    subst (λ (k : List Item). IsToldAt [] (a_paragraph_of b [] k (past_marks (m ++ f)) r)) (sym p.led)
+    (subst (λ (k : List Item). IsToldAt [] (a_paragraph_of b [] m k r)) (sym p.past) h.told.0) in
+    let here : IsChosen pages page (joined b) (a_paragraph_of b [] (led_by (m ++ f)) (past_marks (m ++ f)) r) =
+    subst (λ (k : List Item). IsChosen pages page (joined b) (a_paragraph_of b [] k (past_marks (m ++ f)) r)) (sym p.led)
+    (subst (λ (k : List Item). IsChosen pages page (joined b) (a_paragraph_of b [] m k r)) (sym p.past) h.here) in
+    subst (λ (k : List Item). IsAmongNumbers (start_of 0 (a_paragraph_of b [] k f r)) (told_starts 0 s.ts)) p.led
+    (s.texts 0 b (m ++ f) r rest h.are told h.told.1 (λ z. refl) (meets_so pages page (a_paragraph_of b [] (led_by (m ++ f)) (past_marks (m ++ f)) r) here))
 
 alone_heading : (pages : Pages) (page : List ℕ) (s : Scan (chosen pages page) [] [] false (full_lines (expanded_page pages page).items)) (b : Lines) (m l : List Item)
     (rest : Lines) → IsAlone pages page (a_heading_on b m l) rest → Parted m l → IsAmongNumbers (start_of 0 (a_heading_on b m l)) (told_starts 0 s.ts)
@@ -108,10 +115,39 @@ alone_heading pages page s b m l rest h p =
     subst (λ (k : List Item). IsAmongNumbers (start_of 0 (a_heading_on b k l)) (told_starts 0 s.ts)) p.led
     (s.heads 0 b (m ++ l) rest h.are told (meets_so pages page (a_heading_on b (led_by (m ++ l)) (past_marks (m ++ l))) here))
 
+-- behind a sign
+same_sign : (b : Lines) (s m f : List Item) (r : Lines) → IsEndSign s → Parted m f → sign_told b (s ++ (m ++ f)) r ≡ a_paragraph_of b s m f r
+same_sign b s m f r h p =
+    let o : SignOf (s ++ (m ++ f)) s (m ++ f) = sign_of s (m ++ f) h in
+    ap (λ (k : List Item). a_paragraph_of b k (led_by (past_end (s ++ (m ++ f)))) (past_marks (past_end (s ++ (m ++ f)))) r) o.sign_is
+    ∙ ap (λ (k : List Item). a_paragraph_of b s (led_by k) (past_marks k) r) o.past_is
+    ∙ ap (λ (k : List Item). a_paragraph_of b s k (past_marks (m ++ f)) r) p.led ∙ ap (λ (k : List Item). a_paragraph_of b s m k r) p.past
+
+alone_sign : (pages : Pages) (page : List ℕ) (s : Scan (chosen pages page) [] [] false (full_lines (expanded_page pages page).items)) (b : Lines) (x : Item)
+    (xs m f : List Item) (r rest : Lines) → IsAlone pages page (a_paragraph_of b (x ∷ xs) m f r) rest → Parted m f
+    → IsAmongNumbers (start_of 0 (a_paragraph_of b (x ∷ xs) m f r)) (told_starts 0 s.ts)
+alone_sign pages page s b x xs m f r rest h p =
+    let sign : List Item = x ∷ xs in
+    let l : List Item = sign ++ (m ++ f) in
+    let t : Told = a_paragraph_of b sign m f r in
+    let g : IsEndSign sign = h.told.0.sign.0 in
+    let same : sign_told b l r ≡ t = same_sign b sign m f r g p in
+    let joint : (sign ++ m) ++ f ≡ l = append_assoc sign m f in
+    let kind : kind_at (length (after [] b)) l ≡ line.TableEnd =
+    subst (λ (n : ℕ). kind_at n l ≡ line.TableEnd) (open_size [] 0 b refl) (end_line (tables_behind 0 b) sign (m ++ f) g h.told.0.sign.1) in
+    subst (λ (o : Told). IsAmongNumbers (start_of 0 o) (told_starts 0 s.ts)) same
+    (s.signs 0 b l r rest (h.are ∙ ap (λ (k : List Item). b ++ ((k ∷ r) ++ rest)) joint) kind
+    (subst (IsToldAt []) (sym same) h.told.0)
+    (subst (λ (o : Told). BeginApart (rows_from (length (tables_at [] o)) rest)) (sym same) h.told.1)
+    (subst (λ (o : Told). Meets (chosen pages page) [] o) (sym same) (meets_so pages page t h.here)))
+
 alone : (pages : Pages) (page : List ℕ) (s : Scan (chosen pages page) [] [] false (full_lines (expanded_page pages page).items)) (t : Told) (rest : Lines)
     → IsAlone pages page t rest → IsAmongNumbers (start_of 0 t) (told_starts 0 s.ts)
-alone pages page s (a_paragraph_of b m f r) rest h =
+alone pages page s (a_paragraph_of b [] m f r) rest h =
     alone_text pages page s b m f r rest h (parted_told m f h.told.0.are_marks h.told.0.some (λ x xs z. text_first x xs r
+    (subst (λ (k : List Item). marks_len (content (joined (k ∷ r))) ≡ 0) z h.told.0.own.1)))
+alone pages page s (a_paragraph_of b (x ∷ xs) m f r) rest h =
+    alone_sign pages page s b x xs m f r rest h (parted_told m f h.told.0.are_marks h.told.0.some (λ y ys z. text_first y ys r
     (subst (λ (k : List Item). marks_len (content (joined (k ∷ r))) ≡ 0) z h.told.0.own.1)))
 alone pages page s (a_heading_on b m l) rest h =
     alone_heading pages page s b m l rest h (parted_told m l h.told.0.are_marks h.told.0.some (λ x xs z. sign_first x xs
@@ -133,10 +169,10 @@ pub are_told : (ts : List Told) (behind : Lines) → AreSome ts → ToldFrom [] 
 are_told [] behind s h = absurd s
 are_told (t ∷ ts) behind s h = h
 
-pub chosen_together : (pages : Pages) (page : List ℕ) → AreAllChosen pages page
-chosen_together pages page =
+pub chosen_together : (pages : Pages) (page : List ℕ) → IsUtf8 page → refusal_of_page pages page ≡ None → AreAllChosen pages page
+chosen_together pages page u r =
     let ls : Lines = full_lines (expanded_page pages page).items in
-    let s : Scan (chosen pages page) [] [] false ls = scan (chosen pages page) (chosen_decided pages page) (length ls) [] [] false ls (omega arith) in
+    let s : Scan (chosen pages page) [] [] false ls = scan (chosen pages page) (chosen_decided pages page) (length ls) [] [] false ls (omega arith) (page_signs pages page u r) in
     record {
       ts = s.ts;
       behind = s.behind;

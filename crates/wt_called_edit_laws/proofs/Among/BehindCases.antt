@@ -50,7 +50,7 @@ abbrev mark : Item
 mark = whole form.EmptyCall (Some 0) (codes "{{t}}")
 
 abbrev behind_nothing : Told
-behind_nothing = a_paragraph_of [] (mark ∷ []) (page_chars (codes "x")) []
+behind_nothing = a_paragraph_of [] [] (mark ∷ []) (page_chars (codes "x")) []
 
 nothing_items : (expanded_page (template []) page).items ≡ mark ∷ page_chars (codes "x")
 unfolding words closed form_at comment_len comment_line_len raw_len opening_tag tag_after closing_tag with_inside is_extension
@@ -66,7 +66,7 @@ nothing_lines = refl
 
 nothing_told : AreTold (behind_nothing ∷ []) []
 unfolding kind_of_signs level opening inside closing
-nothing_told = (record { are_marks = refl; some = omega arith; in_cells = tt; apart = tt; own = ((refl, tt), refl) }, tt)
+nothing_told = (record { sign = tt; unclosed = tt; are_marks = refl; some = omega arith; in_cells = tt; apart = tt; own = ((refl, tt), refl) }, tt)
 
 nothing_before : text_from (expanded_page (template []) page).outer None (mark ∷ []) ≡ codes "{{t}}"
 unfolding words closed form_at comment_len comment_line_len raw_len opening_tag tag_after closing_tag with_inside is_extension
@@ -86,7 +86,7 @@ abbrev given : List Item
 given = char (Some 0) 61 ∷ char (Some 0) 104 ∷ char (Some 0) 61 ∷ char (Some 0) 10 ∷ []
 
 abbrev behind_lines : Told
-behind_lines = a_paragraph_of (given ∷ []) [] (page_chars (codes "x")) []
+behind_lines = a_paragraph_of (given ∷ []) [] [] (page_chars (codes "x")) []
 
 lines_items : (expanded_page (template (codes "=h=\n")) page).items ≡ given ++ page_chars (codes "x")
 unfolding words closed form_at comment_len comment_line_len raw_len opening_tag tag_after closing_tag with_inside is_extension
@@ -102,7 +102,7 @@ lines_lines = refl
 
 lines_told : AreTold (behind_lines ∷ []) []
 unfolding kind_of_signs level opening inside closing
-lines_told = (record { are_marks = refl; some = omega arith; in_cells = tt; apart = refl; own = ((refl, tt), refl) }, tt)
+lines_told = (record { sign = tt; unclosed = tt; are_marks = refl; some = omega arith; in_cells = tt; apart = refl; own = ((refl, tt), refl) }, tt)
 
 lines_before : text_from (expanded_page (template (codes "=h=\n")) page).outer None given ≡ codes "{{t}}"
 unfolding words closed form_at comment_len comment_line_len raw_len opening_tag tag_after closing_tag with_inside is_extension

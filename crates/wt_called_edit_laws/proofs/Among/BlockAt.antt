@@ -20,12 +20,12 @@ use Rattle.wt_text_edit_laws.proofs.Cuts.TextLines.{IsEnding}
 use Rattle.wt_beside_laws.proofs.Derived.BlockContents.{block_seen}
 use Rattle.wt_beside_laws.proofs.Derived.BodyRead.{parts_are}
 use Rattle.wt_beside_laws.proofs.Marks.Shown.{nothing_read}
-use Rattle.wt_called_edit_laws.specs.CalledContents.{StayText}
 use Rattle.wt_called_edit_laws.specs.LinedAmong.{AreOfPage, AreBeside}
 use Rattle.wt_called_edit_laws.proofs.Among.OwnItems.{from_page, Skipped, skip, TakenOwn, take_own, rest_clear}
 use Rattle.wt_called_edit_laws.proofs.Among.OwnSeams.{own_last, IsOwnSeam, Rest}
 use Rattle.wt_called_edit_laws.proofs.Among.PartsApart.{IsClear, members_of}
-use Rattle.wt_called_edit_laws.proofs.Cells.PlacedBlocks.{own_alone, stays_so}
+use Rattle.wt_called_edit_laws.proofs.Cells.PlacedBlocks.{own_alone}
+use Rattle.wt_called_edit_laws.proofs.Cells.SignLeads.{StaysOn, stays_on, have_front, have_behind}
 use Rattle.wt_called_edit_laws.proofs.PartTexts.{own_text}
 
 -- ---- bytes that are cut
@@ -57,14 +57,6 @@ read_some (a_heading s) q h = let f : IsFrame s = h.begins in by s.level f.sides
     by : (n : ℕ) → 1 ≤ n → 1 ≤ length ((equals n ++ s.lead) ++ (q ++ closing s))
     by zero le = absurd (omega (arith, le))
     by (suc n) le = omega arith
-
-pub have_front : (xs ys : List Item) → HaveBytes (xs ++ ys) → HaveBytes xs
-have_front [] ys h = tt
-have_front (x ∷ xs) ys h = (h.0, have_front xs ys h.1)
-
-pub have_behind : (xs ys : List Item) → HaveBytes (xs ++ ys) → HaveBytes ys
-have_behind [] ys h = h
-have_behind (x ∷ xs) ys h = have_behind xs ys h.1
 
 pub own_seam : (xs ys : List Item) → last_of None xs ≡ None → IsOwnSeam xs ys
 own_seam [] ys e = tt
@@ -243,7 +235,7 @@ pub record IsBlockHere (pages : Pages) (page : List ℕ) (p : ℕ) (xs os : List
   pub source : sources before ≡ text_from (calls_of pages page) None xs
   pub some : HaveBytes os
   pub alone : page_items (source_of k q) ≡ os
-  pub stays : (n : ℕ) → StayText k n os → StayText k n (page_items q)
+  pub stays : (sign : List Item) (n : ℕ) → StaysOn sign k n os → StaysOn sign k n (page_items q)
   pub first : IsClear (text_to pages page p xs) 0 (members_of page)
   pub last : IsClear (text_to pages page p xs + length (source_of k q)) 0 (members_of page)
   pub next : IsRest pages page (text_to pages page p xs + length (source_of k q)) ys behind
@@ -285,7 +277,7 @@ block_here pages page p xs os k q ys qs r begins own block is_source beside =
       source = first.source;
       some = have_front os second.behind (subst HaveBytes second.is first.next.some);
       alone = ap page_items (sym is_source) ∙ own_alone front os second.behind again (block_seen k q os block);
-      stays = λ n h. stays_so k n q front os second.behind block again h;
+      stays = λ sign n h. stays_on sign k n q front os second.behind block again h;
       first = first.clear;
       last = subst (λ (n : ℕ). IsClear n 0 (members_of page)) all_size second.clear;
       next = subst (λ (n : ℕ). IsRest pages page n ys second.behind) all_size second.next;

@@ -32,7 +32,7 @@ use Rattle.wt_text_edit_laws.specs.TextBlocks.{a_paragraph}
 use lib.Utf8.{encode}
 
 abbrev pub a_line : LinedBlock
-a_line = record { before = []; marks = []; block = a_paragraph; text = source; first = given 0; more = [] }
+a_line = record { before = []; sign = []; marks = []; block = a_paragraph; text = source; first = given 0; more = [] }
 
 items_there : (expanded_page a_word source).items ≡ given 0
 unfolding words closed form_at comment_len comment_line_len raw_len opening_tag tag_after closing_tag with_inside is_extension
@@ -67,11 +67,11 @@ lines_are = refl
 
 stands : IsCallingAt [] a_line
 unfolding kind_of_signs
-stands = record { are_marks = refl; some = omega arith; in_cells = tt; apart = tt; own = (refl, tt) }
+stands = record { sign = tt; are_marks = refl; some = omega arith; in_cells = tt; apart = tt; own = (refl, tt) }
 
 are_here : AreCallingHere (expanded_page a_word source).outer (a_line ∷ [])
 are_here =
-    let text = is_text 0 in (record { before = refl; marks = tt; breaks = text.own_breaks; source = source_there }, tt)
+    let text = is_text 0 in (record { before = refl; marks = tt; breaks = text.own_breaks; source = source_there; unclosed = tt }, tt)
 
 apart_here : AreApartFrom (expanded_page a_word source).outer (expanded_page a_word source).text_calls 0 [] (a_line ∷ [])
 apart_here = subst (λ (ts : List Span). AreApartFrom (expanded_page a_word source).outer ts 0 [] (a_line ∷ [])) (sym no_text_calls) (tt, tt)

@@ -1,16 +1,15 @@
 -- A page with paragraphs and headings that may hold calls, by the lines of the expanded page: it is cut at these, and each is at such a place.
-use Rattle.std.proofs.Common.{arith, ◌≡◌, ◌⊎◌, inl, inr, ℕ, ◌+◌, ◌≤◌, Bool, true, false, Option, None, List, [], ◌∷◌, ◌++◌, length, refl, sym, ap, ap₂, ◌∙◌, subst, append_assoc, append-nil, length-append}
+use Rattle.std.proofs.Common.{arith, ◌≡◌, ◌⊎◌, inl, inr, ℕ, ◌+◌, ◌≤◌, Bool, false, Option, None, List, [], ◌∷◌, ◌++◌, length, refl, sym, ap, ap₂, ◌∙◌, subst, append_assoc, append-nil, length-append}
 use Rattle.std.specs.Str.{IsUtf8}
 use Rattle.std.proofs.lemmas.Grind.{flat_map-append}
 use Rattle.wt_span.specs.declared.form.Mode.TheVariants.{Page}
-use Rattle.std.specs.List.{list_all}
-use Rattle.wt_span.specs.Items.{Item, is_mark, source, sources, call_of}
+use Rattle.wt_span.specs.Items.{Item, source, sources, call_of}
 use Rattle.wt_span.specs.Origins.{OuterCall, Span}
 use Rattle.wt_span.specs.Runs.{AreRuns}
 use Rattle.wt_span.proofs.RunLaws.{runs_are}
 use Rattle.wt_annotated.specs.Seams.{last_of, text_from}
 use Rattle.wt_annotated.proofs.Seams.{last_append}
-use Rattle.wt_lines.specs.Lines.{content, full_lines, goes_on}
+use Rattle.wt_lines.specs.Lines.{content, goes_on, full_lines}
 use Rattle.wt_page.specs.Lines.{ending}
 use Rattle.wt_page.specs.Rows.{Row}
 use Rattle.wt_tables.specs.Parts.{joined}
@@ -25,38 +24,40 @@ use Rattle.wt_part_laws.specs.Scans.{after_all}
 use Rattle.wt_commands.specs.Answers.{refusal_of_page}
 use Rattle.wt_text_edit_laws.specs.BlockSpots.{BlockSpot, spots_source}
 use Rattle.wt_text_edit_laws.specs.PageCuts.{BeginsBreak}
-use Rattle.wt_text_edit_laws.specs.ParagraphBetween.{written_rows}
 use Rattle.wt_text_edit_laws.specs.ParagraphParts.{break}
 use Rattle.wt_text_edit_laws.specs.ReadContents.{IsReadContent}
-use Rattle.wt_text_edit_laws.specs.TextBetween.{AreEnded, BeginsShown}
+use Rattle.wt_text_edit_laws.specs.SignParts.{IsLedTo}
+use Rattle.wt_text_edit_laws.specs.TextBetween.{BeginsShown}
 use Rattle.wt_text_edit_laws.specs.TextBlocks.{TextBlock, a_paragraph, a_heading, source_of, block_items}
 use Rattle.wt_text_edit_laws.proofs.Cuts.ItemCuts.{HaveBytes, page_cut, cut_from}
 use Rattle.wt_text_edit_laws.proofs.Cuts.Seen.{shown_alone}
 use Rattle.wt_text_edit_laws.proofs.Cuts.TextLines.{IsEnding, joined_is, lines_of, runs_behind}
+use Rattle.wt_beside_laws.specs.OpenEnds.{MarksEnd}
 use Rattle.wt_beside_laws.proofs.Derived.BodyRead.{parts_are}
+use Rattle.wt_beside_laws.proofs.Own.OpenEnds.{page_marks, marks_behind}
 use Rattle.wt_called_edit_laws.specs.AnyBlocks.{open_after, rows_of_part, open_behind_part, LeadsInto, past_break, BeginsAfter, NextApart, EndsAfter}
 use Rattle.wt_called_edit_laws.specs.StaysIn.{StaysIn}
-use Rattle.wt_called_edit_laws.specs.CalledContents.{StayText}
+use Rattle.wt_called_edit_laws.specs.TableEnds.{LaterText}
 use Rattle.wt_called_edit_laws.specs.CallingBlocks.{IsContentIn, AreContentsInFolder, spots_with_calls, items_past}
 use Rattle.wt_called_edit_laws.specs.Covered.{HaveFreeBytes}
 use Rattle.wt_called_edit_laws.specs.EditableBlocks.{AreEditableContents, IsEditableWithCalls}
 use Rattle.wt_called_edit_laws.specs.Groups.{called_tree}
 use Rattle.wt_called_edit_laws.specs.InCells.{AreTextLines}
 use Rattle.wt_called_edit_laws.specs.LinedAmong.{spots_on, end_on, AreOfPage, AreBeside}
-use Rattle.wt_called_edit_laws.specs.LinedCalling.{LinesOf, IsCallingAt, AreCallingAfter, AreCallingLined, spot_on, IsCallingHere, AreCallingHere, AreApartFrom, IsLinedCalling}
+use Rattle.wt_called_edit_laws.specs.LinedCalling.{IsCallingAt, AreCallingAfter, AreCallingLined, spot_on, IsCallingHere, AreCallingHere, AreApartFrom, IsLinedCalling}
 use Rattle.wt_called_edit_laws.specs.Parts.{calls_to, calls_past, called_items, called_outers, IsByParts}
 use Rattle.wt_called_edit_laws.specs.PartTexts.{AreSourcesAt}
 use Rattle.wt_called_edit_laws.specs.PlacedAmong.{StandAfter}
 use Rattle.wt_called_edit_laws.specs.PlacedCalling.{AreFurtherCutsAt, AreCutsAt, IsPlacedCalling}
-use Rattle.wt_called_edit_laws.specs.PlacedLines.{LinedBlock, all_lines}
-use Rattle.wt_called_edit_laws.proofs.Among.BlockAt.{read_some, calls_of, IsRest, text_to, block_from, block_to, past_front, BeginsOwn, rest_own, past_before, past_own, marked_text, have_front, beside_first, beside_front, beside_last}
+use Rattle.wt_called_edit_laws.specs.PlacedLines.{LinedBlock, all_lines, lead_of, front_rows}
+use Rattle.wt_called_edit_laws.proofs.Among.BlockAt.{read_some, calls_of, IsRest, text_to, block_from, block_to, past_front, BeginsOwn, rest_own, past_before, past_own, marked_text, beside_first, beside_front, beside_last}
 use Rattle.wt_called_edit_laws.proofs.Among.FirstItems.{FirstHas, EachThere, there_both, there_before, there_behind, part_there, called_there, NamedParts, named_parts, called_first, part_below}
 use Rattle.wt_called_edit_laws.proofs.Among.LinedParts.{EndsBreak, EndsOwn, own_end, ended_text, own_behind, own_text_size, ends_text, cancel, no_items, IsLeft, left_none, left_whole, open_at, line_front, block_front, page_rest}
 use Rattle.wt_called_edit_laws.proofs.Among.OwnSeams.{FirstLonger, FirstShorter, two_cuts, first_or, first_size, text_size, end_behind}
 use Rattle.wt_called_edit_laws.proofs.Among.PartsApart.{IsClear, members_of, AreClear, ArePartsApart, parts_apart}
-use Rattle.wt_called_edit_laws.proofs.Cells.PlacedBlocks.{own_lines}
 use Rattle.wt_called_edit_laws.proofs.Cells.PlacedCalling.{block_begins, PartsRead, parts_read, parts_called, calling_placed}
-use Rattle.wt_called_edit_laws.proofs.Cells.PlacedLines.{own_items, marks_there, Round, round, rows_by, leads_by, both_end, some_lines, lines_end}
+use Rattle.wt_called_edit_laws.proofs.Cells.PlacedLines.{own_items, Round, round, some_lines, lines_end}
+use Rattle.wt_called_edit_laws.proofs.Cells.SignLeads.{rows_by, leads_by, StaysOn, stays_by, lines_stay, have_front, lead_led}
 use Rattle.wt_called_edit_laws.proofs.Parts.Retyped.{is_by_parts}
 use Rattle.wt_called_edit_laws.proofs.PartTexts.{IsBelow, part_text, sources_first}
 
@@ -70,6 +71,7 @@ record IsCutHere (pages : Pages) (page : List ℕ) (p : ℕ) (xs ms : List Item)
   source : sources before ≡ text_from (calls_of pages page) None (xs ++ ms)
   marked : text_from (calls_of pages page) None (xs ++ ms) ≡ text_from (calls_of pages page) None xs ++ sources ms
   marks : HaveBytes ms
+  marks_end : MarksEnd (ms ++ (block_items k q ++ behind))
   own_source : sources (block_items k q) ≡ source_of k q
   first : IsClear (block_from pages page p xs ms) 0 (members_of page)
   last : IsClear (block_to pages page p xs ms k q) 0 (members_of page)
@@ -124,6 +126,9 @@ cut_here pages page p xs ms os k q ys qs r ends marks own h is_source beside =
       source = flat_map-append source first.before ms ∙ ap (λ (bs : List ℕ). bs ++ sources ms) first.source ∙ sym marked;
       marked = marked;
       marks = have_front ms second.behind (subst HaveBytes second.is first.next.some);
+      marks_end = marks_behind first.next.front (ms ++ (block_items k q ++ third.behind))
+          (subst MarksEnd (first.next.whole ∙ ap (λ zs. first.next.front ++ zs) (second.is ∙ ap (λ zs. ms ++ zs) (third.is ∙ ap (λ zs. zs ++ third.behind) mine_is)))
+          (page_marks page));
       own_source = sym (ap sources mine_is) ∙ mine_source;
       first = subst (λ (n : ℕ). IsClear n 0 (members_of page)) size second.clear;
       last = subst (λ (n : ℕ). IsClear n 0 (members_of page)) all_size third.clear;
@@ -169,55 +174,35 @@ same_front calls xs o os gs bs e ends some t = by (two_cuts xs (o ∷ os) gs bs 
 
 -- ---- one block
 
--- each line of a paragraph is text where so many tables are open
-lines_stay : (k : TextBlock) (n : ℕ) (ts : List (List Item)) (y : Item) (ys : List Item) → joined ts ≡ y ∷ ys → full_lines (joined ts) ≡ ts → LinesOf k n ts
-    → StayText k n (content (joined ts))
-lines_stay a_paragraph n ts y ys is e h = let told = own_lines n (joined ts) ts y ys is e h in told.stays
-lines_stay (a_heading s) n ts y ys is e h = tt
-
 -- so it is of its text by itself
-text_stays : (k : TextBlock) (n i : ℕ) (pages : Pages) (q : List ℕ) (own : List Item) → own ≡ part_items pages i (source_of k q) → StayText k n own
-    → StayText k n (part_items pages i q)
-text_stays a_paragraph n i pages q own e h = subst (AreTextLines n) e h
-text_stays (a_heading s) n i pages q own e h = tt
+text_stays : (sign : List Item) (k : TextBlock) (n i : ℕ) (pages : Pages) (q : List ℕ) (own : List Item) → own ≡ part_items pages i (source_of k q)
+    → StaysOn sign k n own → StaysOn sign k n (part_items pages i q)
+text_stays [] a_paragraph n i pages q own e h = subst (AreTextLines n) e h
+text_stays [] (a_heading s) n i pages q own e h = tt
+text_stays (x ∷ xs) a_paragraph n i pages q own e h = subst (LaterText a_paragraph n) e h
+text_stays (x ∷ xs) (a_heading s) n i pages q own e h = absurd h
 
--- ---- the marks before it
+-- ---- a block there
 
 some_items : (xs : List Item) → 1 ≤ length (sources xs) → 1 ≤ length xs
 some_items [] h = absurd (omega (arith, h))
 some_items (x ∷ xs) h = omega arith
 
-begins_size : (calls : List OuterCall) (xs ys : List Item) (k : TextBlock) (q : List ℕ) → text_from calls None xs ≡ source_of k q → IsReadContent k q
-    → 1 ≤ length (text_from calls None (xs ++ ys))
-begins_size calls xs ys k q e h = omega (arith, read_some k q h, ap length e, text_size calls None xs ys)
-
--- they are marks of the page, and something is behind them
-marks_before : (pages : Pages) (page : List ℕ) (p : ℕ) (xs ms ys qs : List Item) → IsRest pages page p (xs ++ (ms ++ ys)) qs → last_of None xs ≡ None → AreOfPage ms
-    → AreBeside (text_to pages page p xs) (text_to pages page p xs + length (sources ms)) (expanded_page pages page).text_calls
-    → 1 ≤ length (text_from (calls_of pages page) None ys) → list_all is_mark ms ≡ true → AreEnded (sources ms)
-marks_before pages page p xs ms ys qs r ends marks beside seen all =
-    let spans : List Span = (expanded_page pages page).text_calls in
-    let line : ℕ = text_to pages page p xs in
-    let first = past_front pages page p xs (ms ++ ys) qs r ends (beside_first line (line + length (sources ms)) spans (omega arith) beside) in
-    let second = past_own pages page line ms ys first.behind first.next marks beside in
-    let some : 1 ≤ length second.behind = some_items second.behind (omega (arith, seen, ap length second.next.same)) in
-    marks_there page first.next.front ms second.behind (first.next.whole ∙ ap (λ zs. first.next.front ++ zs) second.is) all some
-
 -- a block with its lines among those of the page
 record IsHere (pages : Pages) (page : List ℕ) (open_tables : List Bool) (es : List Item) (b : LinedBlock) (tail : List (List Item)) (p : ℕ) (qs : List Item) : Type 0 where
   around : Round b tail
-  items : es ++ joined (b.before ++ (((b.marks ++ b.first) ∷ b.more) ++ tail)) ≡ block_front es b ++ (content (own_items b) ++ (ending (own_items b) ++ joined tail))
+  items : es ++ joined (b.before ++ (((lead_of b ++ b.first) ∷ b.more) ++ tail)) ≡ block_front es b ++ (content (own_items b) ++ (ending (own_items b) ++ joined tail))
   ends : EndsOwn (block_front es b)
-  ended : AreEnded (text_from (calls_of pages page) None (block_front es b))
-  here : IsCutHere pages page p (line_front es b) b.marks b.block b.text (ending (own_items b) ++ joined tail) qs
-  stays : StayText b.block (length (open_at open_tables b)) (content (own_items b))
-  leads : LeadsInto b.block open_tables (joined b.before ++ b.marks)
+  led : IsLedTo (text_from (calls_of pages page) None (block_front es b)) b.block b.text
+  here : IsCutHere pages page p (line_front es b) (lead_of b) b.block b.text (ending (own_items b) ++ joined tail) qs
+  stays : StaysOn b.sign b.block (length (open_at open_tables b)) (content (own_items b))
+  leads : LeadsInto b.block open_tables (joined b.before ++ lead_of b)
 
 is_here : (pages : Pages) (page : List ℕ) (open_tables : List Bool) (es : List Item) (b : LinedBlock) (tail : List (List Item)) (p : ℕ) (qs xs : List Item)
-    → AreRuns goes_on (b.before ++ (((b.marks ++ b.first) ∷ b.more) ++ tail)) xs → IsLeft es
-    → IsRest pages page p (es ++ joined (b.before ++ (((b.marks ++ b.first) ∷ b.more) ++ tail))) qs → IsCallingAt open_tables b
+    → AreRuns goes_on (b.before ++ (((lead_of b ++ b.first) ∷ b.more) ++ tail)) xs → IsLeft es
+    → IsRest pages page p (es ++ joined (b.before ++ (((lead_of b ++ b.first) ∷ b.more) ++ tail))) qs → IsCallingAt open_tables b
     → IsCallingHere (calls_of pages page) b → IsReadContent b.block b.text
-    → AreBeside (text_to pages page p (line_front es b)) (block_to pages page p (line_front es b) b.marks b.block b.text) (expanded_page pages page).text_calls
+    → AreBeside (text_to pages page p (line_front es b)) (block_to pages page p (line_front es b) (lead_of b) b.block b.text) (expanded_page pages page).text_calls
     → IsHere pages page open_tables es b tail p qs
 is_here pages page open_tables es b tail p qs xs runs left rest h own read beside =
     let calls : List OuterCall = calls_of pages page in
@@ -230,29 +215,25 @@ is_here pages page open_tables es b tail p qs xs runs left rest h own read besid
     let n : ℕ = length (open_at open_tables b) in
     let none : last_of None front ≡ None =
     last_append None es before ∙ ap (λ (o : Option ℕ). last_of o before) (left_none es left) ∙ own.before in
-    let items : es ++ joined (b.before ++ (((b.marks ++ b.first) ∷ b.more) ++ tail)) ≡ front ++ (b.marks ++ others) =
-    ap (λ zs. es ++ zs) (r.items ∙ append_assoc before b.marks others) ∙ sym (append_assoc es before (b.marks ++ others)) in
+    let items : es ++ joined (b.before ++ (((lead_of b ++ b.first) ∷ b.more) ++ tail)) ≡ front ++ (lead_of b ++ others) =
+    ap (λ zs. es ++ zs) (r.items ∙ append_assoc before (lead_of b) others) ∙ sym (append_assoc es before (lead_of b ++ others)) in
     let ends : EndsBreak front = own_end None front (left_whole es before left r.front_whole) none in
-    let there : IsRest pages page p (front ++ (b.marks ++ others)) qs = subst (λ zs. IsRest pages page p zs qs) items rest in
-    let sum = ap length (marked_text calls front b.marks none own.marks) in
-    let two = length-append (text_from calls None front) (sources b.marks) in
-    let line : ℕ = text_to pages page p front in
-    let near : AreBeside line (line + length (sources b.marks)) (expanded_page pages page).text_calls =
-    beside_front line (line + length (sources b.marks)) (block_to pages page p front b.marks b.block b.text) (expanded_page pages page).text_calls
-    (omega (arith, sum, two)) beside in
-    let marks_end : AreEnded (sources b.marks) =
-    marks_before pages page p front b.marks others qs there none own.marks near
-    (begins_size calls (content text) (ending text ++ joined tail) b.block b.text own.source read) h.are_marks in
-    let here = cut_here pages page p front b.marks (content text) b.block b.text (ending text ++ joined tail) qs
+    let there : IsRest pages page p (front ++ (lead_of b ++ others)) qs = subst (λ zs. IsRest pages page p zs qs) items rest in
+    let here = cut_here pages page p front (lead_of b) (content text) b.block b.text (ending text ++ joined tail) qs
     there none own.marks (rest_own (ending text) tail r.own_ending r.ends) read own.source beside in
+    let mine : List Item = block_items b.block b.text in
+    let size : 1 ≤ length (sources mine) = omega (arith, ap length here.own_source, read_some b.block b.text read) in
+    let some : 1 ≤ length (mine ++ here.behind) = omega (arith, some_items mine size, length-append mine here.behind) in
     record {
       around = r;
-      items = items ∙ sym (append_assoc front b.marks others);
-      ends = own_behind front b.marks ends own.marks here.marks;
-      ended = subst AreEnded (sym here.marked) (both_end (text_from calls None front) (sources b.marks) (ended_text calls front ends) marks_end);
+      items = items ∙ sym (append_assoc front (lead_of b) others);
+      ends = own_behind front (lead_of b) ends own.marks here.marks;
+      led = subst (λ (bs : List ℕ). IsLedTo bs b.block b.text) (sym here.marked)
+          (lead_led b.block b.text (length open_tables) b.before b.sign b.marks (mine ++ here.behind) (text_from calls None front) h.sign own.unclosed h.are_marks
+          here.marks_end here.marks some (ended_text calls front ends));
       here = here;
-      stays = lines_stay b.block n ts r.y r.ys r.some r.own_are h.own;
-      leads = leads_by b.block open_tables b.before b.marks h.are_marks r.front_are r.front_whole h.in_cells h.apart;
+      stays = lines_stay b.sign b.block (length open_tables) b.before n ts r.y r.ys r.some r.own_are h.sign h.own;
+      leads = leads_by b.block open_tables b.before b.sign b.marks h.are_marks h.sign r.front_are r.front_whole h.in_cells h.apart;
     }
 
 -- ---- as parts
@@ -312,7 +293,7 @@ record ArePartsHere (pages : Pages) (page : List ℕ) (es : List Item) (b : Line
 parts_here : (pages : Pages) (page : List ℕ) (open_tables : List Bool) (es : List Item) (b : LinedBlock) (tail : List (List Item)) (p : ℕ) (qs : List Item)
     → IsHere pages page open_tables es b tail p qs → (k : ℕ) (ss : List BlockSpot) (end : List ℕ) → IsCallingHere (calls_of pages page) b
     → IsReadContent b.block b.text
-    → es ++ joined (b.before ++ (((b.marks ++ b.first) ∷ b.more) ++ tail)) ≡ called_items pages k (spot_on (calls_of pages page) es b ∷ ss) end
+    → es ++ joined (b.before ++ (((lead_of b ++ b.first) ∷ b.more) ++ tail)) ≡ called_items pages k (spot_on (calls_of pages page) es b ∷ ss) end
     → NamedParts pages (calls_of pages page) k (spot_on (calls_of pages page) es b) ss end → ArePartsHere pages page es b tail k ss end
 parts_here pages page open_tables es b tail p qs l k ss end h read e n =
     let calls : List OuterCall = calls_of pages page in
@@ -370,8 +351,8 @@ further pages page last open_tables es [] behind p k qs xs runs i f r h own c u 
 further pages page last open_tables es (b ∷ ls) behind p k qs xs runs i f r h own c u =
     let calls : List OuterCall = calls_of pages page in
     let tail : List (List Item) = all_lines ls behind in
-    let front : List Item = joined b.before ++ b.marks in
-    let some = some_lines b.before (b.marks ++ b.first) (b.more ++ tail) in
+    let front : List Item = joined b.before ++ lead_of b in
+    let some = some_lines b.before (lead_of b ++ b.first) (b.more ++ tail) in
     let is_break : es ≡ break ∷ [] = f some.0 some.1 some.2 in
     let s : BlockSpot = spot_on calls es b in
     let content_in : IsContentIn pages b.block b.text = c.0 in
@@ -381,16 +362,16 @@ further pages page last open_tables es (b ∷ ls) behind p k qs xs runs i f r h 
     let left : List Item = ending (own_items b) in
     let ss : List BlockSpot = spots_on calls left ls in
     let end : List ℕ = end_on calls left ls behind in
-    let end_at : ℕ = block_to pages page p (line_front es b) b.marks b.block b.text in
+    let end_at : ℕ = block_to pages page p (line_front es b) (lead_of b) b.block b.text in
     let d : AreHere pages page b.block now left ls behind end_at (calls_past pages k s) l.here.behind =
     further pages page b.block now left ls behind end_at (calls_past pages k s) l.here.behind (joined tail) l.around.tail_runs l.around.own_ending
     l.around.ends l.here.next h.2 own.1 c.1 u.1 in
-    let rows : List Row = written_rows (length open_tables) b.before in
-    let same : rows_of_part open_tables front ≡ rows = rows_by open_tables b.before b.marks h.1.are_marks l.around.front_are l.around.front_whole in
+    let rows : List Row = front_rows (length open_tables) b in
+    let same : rows_of_part open_tables front ≡ rows = rows_by open_tables b.block b.before b.sign b.marks h.1.are_marks h.1.sign l.around.front_are l.around.front_whole in
     record {
       cuts = (
         record { before = l.here.before; rest = l.here.behind; is = l.here.is; source = l.here.source },
-        l.ended,
+        l.led,
         subst (λ (zs : List Item). BeginsBreak (text_from calls None (block_front zs b))) (sym is_break) refl,
         d.cuts,
       );
@@ -401,8 +382,8 @@ further pages page last open_tables es (b ∷ ls) behind p k qs xs runs i f r h 
           let parts = parts_here pages page open_tables es b tail p qs l k ss end own.0 content_in.read e n in
           let later = d.stand parts.rest n.rest in
           let text : List Item = part_items pages (calls_to pages k s) b.text in
-          let stays : StayText b.block (length now) text =
-          text_stays b.block (length now) (calls_to pages k s) pages b.text (content (own_items b)) parts.gives l.stays in
+          let stays : StaysOn b.sign b.block (length now) text =
+          text_stays b.sign b.block (length now) (calls_to pages k s) pages b.text (content (own_items b)) parts.gives l.stays in
           let others = spots_with_calls pages (calls_past pages k s) ss in
           let past : List Item = items_past pages (calls_past pages k s) ss end in
           let P : List Item → Type 0 = λ zs. BeginsAfter last b.block open_tables zs × LeadsInto b.block open_tables (past_break zs)
@@ -411,7 +392,7 @@ further pages page last open_tables es (b ∷ ls) behind p k qs xs runs i f r h 
           subst P (ap (λ (zs : List Item). block_front zs b) (sym is_break) ∙ sym parts.first) (
             (refl, subst (NextApart last b.block) (sym same) h.0),
             l.leads,
-            inl (subst (λ (rs : List Row). StayText b.block (length (open_after open_tables rs)) text) (sym same) stays),
+            stays_by b.block open_tables b.before b.sign b.marks text h.1.are_marks h.1.sign l.around.front_are l.around.front_whole stays,
             subst (λ (rs : List Row). StandAfter b.block (open_after open_tables rs) others past) (sym same) later,
           );
     }
@@ -433,9 +414,9 @@ pub record IsLinedWithCalls (pages : Pages) (page : List ℕ) (bs : List LinedBl
 pub record IsGivenFirst (pages : Pages) (b : LinedBlock) (tail : List (List Item)) : Type 0 where
   pub number : ℕ
   pub gives : content (own_items b) ≡ part_items pages number (source_of b.block b.text)
-  pub stays : StayText b.block (length (open_at [] b)) (part_items pages number b.text)
+  pub stays : StaysOn b.sign b.block (length (open_at [] b)) (part_items pages number b.text)
   pub around : Round b tail
-  pub runs : AreRuns goes_on (((b.marks ++ b.first) ∷ b.more) ++ tail) (joined (((b.marks ++ b.first) ∷ b.more) ++ tail))
+  pub runs : AreRuns goes_on (((lead_of b ++ b.first) ∷ b.more) ++ tail) (joined (((lead_of b ++ b.first) ∷ b.more) ++ tail))
 
 abbrev GivesFirst : Pages → List LinedBlock → List (List Item) → Type 0
 GivesFirst pages [] behind = ⊥
@@ -453,8 +434,8 @@ calling_lined pages page [] behind h = absurd h.lined
 calling_lined pages page (b ∷ ls) behind h =
     let calls : List OuterCall = calls_of pages page in
     let tail : List (List Item) = all_lines ls behind in
-    let ts : List (List Item) = (b.marks ++ b.first) ∷ b.more in
-    let front : List Item = joined b.before ++ b.marks in
+    let ts : List (List Item) = (lead_of b ++ b.first) ∷ b.more in
+    let front : List Item = joined b.before ++ lead_of b in
     let xs : List Item = (expanded_page pages page).items in
     let runs : AreRuns goes_on (b.before ++ (ts ++ tail)) xs = subst (λ (ks : List (List Item)). AreRuns goes_on ks xs) h.are (runs_are goes_on xs) in
     let all : xs ≡ joined (b.before ++ (ts ++ tail)) = joined_is goes_on (b.before ++ (ts ++ tail)) xs runs in
@@ -467,7 +448,7 @@ calling_lined pages page (b ∷ ls) behind h =
     let left : List Item = ending (own_items b) in
     let ss : List BlockSpot = spots_on calls left ls in
     let end : List ℕ = end_on calls left ls behind in
-    let end_at : ℕ = block_to pages page 0 (joined b.before) b.marks b.block b.text in
+    let end_at : ℕ = block_to pages page 0 (joined b.before) (lead_of b) b.block b.text in
     let d : AreHere pages page b.block now left ls behind end_at (calls_past pages 0 s) l.here.behind =
     further pages page b.block now left ls behind end_at (calls_past pages 0 s) l.here.behind (joined tail) l.around.tail_runs l.around.own_ending
     l.around.ends l.here.next h.lined.1 h.here.1 h.contents.1 h.apart.1 in
@@ -475,7 +456,7 @@ calling_lined pages page (b ∷ ls) behind h =
     let utf8 : IsUtf8 (spots_source (s ∷ ss) end) = subst IsUtf8 (sym same) h.utf8 in
     let cuts : AreCutsAt (s ∷ ss) end = (
       record { before = l.here.before; rest = l.here.behind; is = ap page_items same ∙ l.here.is; source = l.here.source },
-      l.ended,
+      l.led,
       d.cuts,
     ) in
     let clear : AreClear 0 (s ∷ ss) (members_of page) = (l.here.first, l.here.last, d.clear) in
@@ -493,10 +474,10 @@ calling_lined pages page (b ∷ ls) behind h =
     let parts = parts_here pages page [] [] b tail 0 (page_items page) l 0 ss end h.here.0 content_in.read items n in
     let later = d.stand parts.rest n.rest in
     let text : List Item = part_items pages (calls_to pages 0 s) b.text in
-    let stays : StayText b.block (length now) text =
-    text_stays b.block (length now) (calls_to pages 0 s) pages b.text (content (own_items b)) parts.gives l.stays in
-    let rows : List Row = written_rows 0 b.before in
-    let rows_are : rows_of_part [] front ≡ rows = rows_by [] b.before b.marks h.lined.0.are_marks l.around.front_are l.around.front_whole in
+    let stays : StaysOn b.sign b.block (length now) text =
+    text_stays b.sign b.block (length now) (calls_to pages 0 s) pages b.text (content (own_items b)) parts.gives l.stays in
+    let rows : List Row = front_rows 0 b in
+    let rows_are : rows_of_part [] front ≡ rows = rows_by [] b.block b.before b.sign b.marks h.lined.0.are_marks h.lined.0.sign l.around.front_are l.around.front_whole in
     let others = spots_with_calls pages (calls_past pages 0 s) ss in
     let past : List Item = items_past pages (calls_past pages 0 s) ss end in
     let P : List Item → Type 0 = λ zs. LeadsInto b.block [] zs × StaysIn b.block [] zs text
@@ -511,7 +492,7 @@ calling_lined pages page (b ∷ ls) behind h =
         apart = apart.none;
         stand = subst P (sym parts.first) (
           l.leads,
-          inl (subst (λ (rs : List Row). StayText b.block (length (open_after [] rs)) text) (sym rows_are) stays),
+          stays_by b.block [] b.before b.sign b.marks text h.lined.0.are_marks h.lined.0.sign l.around.front_are l.around.front_whole stays,
           subst (λ (rs : List Row). StandAfter b.block (open_after [] rs) others past) (sym rows_are) later,
         );
         unrefused = subst (λ (bs : List ℕ). refusal_of_page pages bs ≡ None) (sym same) h.unrefused;

@@ -24,7 +24,6 @@ use Rattle.wt_text_edit_laws.specs.BlockSpots.{BlockSpot, spots_source}
 use Rattle.wt_text_edit_laws.specs.LonePages.{of_items}
 use Rattle.wt_text_edit_laws.specs.NoCalls.{CallsNothing}
 use Rattle.wt_text_edit_laws.specs.PageCuts.{AreFree, EndClosed}
-use Rattle.wt_text_edit_laws.specs.ParagraphBetween.{written_rows}
 use Rattle.wt_text_edit_laws.specs.ParagraphParts.{break}
 use Rattle.wt_text_edit_laws.specs.TextBlocks.{TextBlock}
 use Rattle.wt_text_edit_laws.proofs.Between.LessBraces.{BeginsUnbraced}
@@ -35,7 +34,7 @@ use Rattle.wt_called_edit_laws.specs.AnyBlocks.{open_after, open_behind_part, pa
 use Rattle.wt_called_edit_laws.specs.Covered.{AreInNoGroup, IsEditablePage}
 use Rattle.wt_called_edit_laws.specs.Groups.{called_tree}
 use Rattle.wt_called_edit_laws.specs.LinedAmong.{spots_on, end_on, spots_of_lines, end_of_lines, AreOfPage, AreOwnLines, AreLed, AreUntouched, IsLinedAmong}
-use Rattle.wt_called_edit_laws.specs.PlacedLines.{LinedBlock, all_lines, spots_by, end_by, AreLinedAfter, AreLined, IsLinedPage}
+use Rattle.wt_called_edit_laws.specs.PlacedLines.{LinedBlock, all_lines, spots_by, end_by, AreLinedAfter, AreLined, IsLinedPage, lead_of, front_rows}
 use Rattle.wt_called_edit_laws.specs.PlacedSpots.{AreFurtherIn, AreBlocksIn, IsPlacedPage}
 use Rattle.wt_called_edit_laws.proofs.Among.LinedParts.{of_behind, of_front, own_breaks}
 use Rattle.wt_called_edit_laws.proofs.Among.OwnItems.{from_page}
@@ -93,31 +92,31 @@ own_source calls xs h = own_text calls None xs (from_page xs h)
 -- a block's lines, and those beside them
 record AreOwnParts (b : LinedBlock) (tail : List (List Item)) : Type 0 where
   front : AreOfPage (joined b.before)
-  line : AreOfPage (b.marks ++ own_items b)
+  line : AreOfPage (lead_of b ++ own_items b)
   after : AreOfPage (ending (own_items b))
   rest : AreOfPage (joined tail)
 
-own_parts : (b : LinedBlock) (tail : List (List Item)) → AreOfPage (joined (b.before ++ (((b.marks ++ b.first) ∷ b.more) ++ tail))) → AreOwnParts b tail
+own_parts : (b : LinedBlock) (tail : List (List Item)) → AreOfPage (joined (b.before ++ (((lead_of b ++ b.first) ∷ b.more) ++ tail))) → AreOwnParts b tail
 own_parts b tail h =
     let front : List Item = joined b.before in
     let own : List Item = own_items b in
-    let all : AreOfPage ((front ++ b.marks) ++ (own ++ joined tail)) = subst AreOfPage (lines_joined b tail) h in
-    let before : AreOfPage (front ++ b.marks) = of_front (front ++ b.marks) (own ++ joined tail) all in
-    let behind : AreOfPage (own ++ joined tail) = of_behind (front ++ b.marks) (own ++ joined tail) all in
+    let all : AreOfPage ((front ++ lead_of b) ++ (own ++ joined tail)) = subst AreOfPage (lines_joined b tail) h in
+    let before : AreOfPage (front ++ lead_of b) = of_front (front ++ lead_of b) (own ++ joined tail) all in
+    let behind : AreOfPage (own ++ joined tail) = of_behind (front ++ lead_of b) (own ++ joined tail) all in
     let mine : AreOfPage own = of_front own (joined tail) behind in
     record {
-      front = of_front front b.marks before;
-      line = of_both b.marks own (of_behind front b.marks before) mine;
+      front = of_front front (lead_of b) before;
+      line = of_both (lead_of b) own (of_behind front (lead_of b) before) mine;
       after = of_behind (content own) (ending own) (subst AreOfPage (sym (content_ending own)) mine);
       rest = of_behind own (joined tail) behind;
     }
 
-before_is : (calls : List OuterCall) (es : List Item) (b : LinedBlock) → AreOfPage es → AreOfPage (joined b.before) → AreOfPage (b.marks ++ own_items b)
-    → text_from calls None ((es ++ joined b.before) ++ b.marks) ≡ sources (es ++ (joined b.before ++ b.marks))
+before_is : (calls : List OuterCall) (es : List Item) (b : LinedBlock) → AreOfPage es → AreOfPage (joined b.before) → AreOfPage (lead_of b ++ own_items b)
+    → text_from calls None ((es ++ joined b.before) ++ lead_of b) ≡ sources (es ++ (joined b.before ++ lead_of b))
 before_is calls es b e f l =
     let front : List Item = joined b.before in
-    own_source calls ((es ++ front) ++ b.marks) (of_both (es ++ front) b.marks (of_both es front e f) (of_front b.marks (own_items b) l))
-    ∙ ap sources (append_assoc es front b.marks)
+    own_source calls ((es ++ front) ++ lead_of b) (of_both (es ++ front) (lead_of b) (of_both es front e f) (of_front (lead_of b) (own_items b) l))
+    ∙ ap sources (append_assoc es front (lead_of b))
 
 spots_are : (calls : List OuterCall) (es : List Item) (bs : List LinedBlock) (behind : List (List Item)) → AreOfPage es → AreOfPage (joined (all_lines bs behind))
     → (spots_on calls es bs ≡ spots_by es bs) × (end_on calls es bs behind ≡ end_by es bs behind)
@@ -145,11 +144,11 @@ AreSome (b ∷ bs) = (1 ≤ length b.first) × AreSome bs
 some_after : (last : TextBlock) (open_tables : List Bool) (bs : List LinedBlock) (behind : List (List Item)) → AreLinedAfter last open_tables bs behind → AreSome bs
 some_after last open_tables [] behind h = tt
 some_after last open_tables (b ∷ bs) behind h =
-    (h.1.some, some_after b.block (open_after open_tables (written_rows (length open_tables) b.before)) bs behind h.2)
+    (h.1.some, some_after b.block (open_after open_tables (front_rows (length open_tables) b)) bs behind h.2)
 
 some_all : (bs : List LinedBlock) (behind : List (List Item)) → AreLined bs behind → AreSome bs
 some_all [] behind h = absurd h
-some_all (b ∷ bs) behind h = (h.0.some, some_after b.block (open_after [] (written_rows 0 b.before)) bs behind h.1)
+some_all (b ∷ bs) behind h = (h.0.some, some_after b.block (open_after [] (front_rows 0 b)) bs behind h.1)
 
 pub own_all : (front : List Item) (bs : List LinedBlock) (behind : List (List Item)) (xs : List Item) → AreRuns goes_on (all_lines bs behind) xs
     → AreOfPage (joined (all_lines bs behind)) → CallsNothing (front ++ joined (all_lines bs behind)) → AreSome bs → AreOwnLines bs
@@ -158,13 +157,13 @@ own_all front (b ∷ bs) behind xs runs h c s =
     let tail : List (List Item) = all_lines bs behind in
     let own : List Item = own_items b in
     let p : AreOwnParts b tail = own_parts b tail h in
-    let mine : AreOfPage own = of_behind b.marks own p.line in
+    let mine : AreOfPage own = of_behind (lead_of b) own p.line in
     let r : Round b tail = round b tail xs s.0 runs (own_breaks own mine) in
-    let before : List Item = joined b.before ++ b.marks in
+    let before : List Item = joined b.before ++ lead_of b in
     let rest : List Item = ending own ++ joined tail in
     let all : CallsNothing ((front ++ before) ++ (content own ++ rest)) =
     subst CallsNothing (ap (λ zs. front ++ zs) r.items ∙ sym (append_assoc front before (content own ++ rest))) c in
-    let split : front ++ joined (b.before ++ (((b.marks ++ b.first) ∷ b.more) ++ tail)) ≡ ((front ++ before) ++ own) ++ joined tail =
+    let split : front ++ joined (b.before ++ (((lead_of b ++ b.first) ∷ b.more) ++ tail)) ≡ ((front ++ before) ++ own) ++ joined tail =
     ap (λ zs. front ++ zs) (lines_joined b tail) ∙ sym (append_assoc front before (own ++ joined tail)) ∙ sym (append_assoc (front ++ before) own (joined tail)) in (
       mine,
       calm_between (front ++ before) (content own) rest (behind_unbraced tail (ending own) r.own_ending r.ends) all,
@@ -177,7 +176,7 @@ none_touched : (calls : List OuterCall) (at : ℕ) (es : List Item) (bs : List L
 none_touched calls at es [] = tt
 none_touched calls at es (b ∷ bs) = (
   tt,
-  none_touched calls (at + length (text_from calls None ((es ++ joined b.before) ++ b.marks)) + length (sources (content (own_items b)))) (ending (own_items b)) bs,
+  none_touched calls (at + length (text_from calls None ((es ++ joined b.before) ++ lead_of b)) + length (sources (content (own_items b)))) (ending (own_items b)) bs,
 )
 
 -- each is behind lines, comments and tags

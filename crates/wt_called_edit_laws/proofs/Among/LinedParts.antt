@@ -26,7 +26,6 @@ use Rattle.wt_text_edit_laws.specs.BlockSpots.{BlockSpot, spots_source}
 use Rattle.wt_text_edit_laws.specs.LonePages.{page_chars}
 use Rattle.wt_text_edit_laws.specs.NoCalls.{CallsNothing}
 use Rattle.wt_text_edit_laws.specs.PageCuts.{AreBlockItems, BeginsBreak, EndsThere, EndClosed, AreFurtherCuts, AreCuts}
-use Rattle.wt_text_edit_laws.specs.ParagraphBetween.{written_rows}
 use Rattle.wt_text_edit_laws.specs.ParagraphParts.{break}
 use Rattle.wt_text_edit_laws.specs.TextBetween.{AreEnded}
 use Rattle.wt_text_edit_laws.specs.TextBlocks.{TextBlock, a_paragraph, a_heading, source_of}
@@ -41,19 +40,19 @@ use Rattle.wt_text_edit_laws.proofs.Paragraphs.SeenLines.{seen_some}
 use Rattle.wt_called_edit_laws.specs.AnyBlocks.{open_after, rows_of_part, open_behind_part, LeadsInto, past_break, BeginsAfter, NextApart, EndsAfter}
 use Rattle.wt_called_edit_laws.specs.CalledBlocks.{spots_among, items_behind}
 use Rattle.wt_called_edit_laws.specs.StaysIn.{StaysIn}
-use Rattle.wt_called_edit_laws.specs.CalledContents.{StayText}
 use Rattle.wt_called_edit_laws.specs.Covered.{AreInNoGroup, IsEditablePage}
 use Rattle.wt_called_edit_laws.specs.Groups.{called_tree}
 use Rattle.wt_called_edit_laws.specs.LinedAmong.{spots_on, end_on, AreOfPage, AreOwnLines, AreLed, AreBeside, AreUntouched, IsLinedAmong}
 use Rattle.wt_called_edit_laws.specs.Parts.{calls_to, calls_past, called_items, called_outers, IsByParts}
 use Rattle.wt_called_edit_laws.specs.PlacedAmong.{AreCalm, StandAfter, IsPlacedAmong}
-use Rattle.wt_called_edit_laws.specs.PlacedLines.{LinedBlock, all_lines, IsLinedAt, AreLinedAfter}
+use Rattle.wt_called_edit_laws.specs.PlacedLines.{LinedBlock, all_lines, IsLinedAt, AreLinedAfter, lead_of, front_rows}
 use Rattle.wt_called_edit_laws.specs.PartTexts.{AreSourcesAt}
 use Rattle.wt_called_edit_laws.proofs.Among.BlockAt.{calls_of, IsRest, IsBlockHere, text_to, block_to, BeginsOwn, block_here, beside_front}
 use Rattle.wt_called_edit_laws.proofs.Among.OwnItems.{whole_rest}
 use Rattle.wt_called_edit_laws.proofs.Among.OwnSeams.{Rest, FirstLonger, FirstShorter, two_cuts, first_or, others, sources_size, text_size}
 use Rattle.wt_called_edit_laws.proofs.Among.PartsApart.{members_of, AreClear, ArePartsApart, parts_apart}
-use Rattle.wt_called_edit_laws.proofs.Cells.PlacedLines.{own_items, Round, round, rows_by, leads_by, own_block, own_source, past_end, some_lines, lines_end}
+use Rattle.wt_called_edit_laws.proofs.Cells.PlacedLines.{own_items, Round, round, own_source, past_end, some_lines, lines_end}
+use Rattle.wt_called_edit_laws.proofs.Cells.SignLeads.{rows_by, leads_by, own_block, StaysOn, stays_by}
 use Rattle.wt_called_edit_laws.proofs.Cells.PlacedAmong.{PartsRead, parts_read, parts_called, placed_editable}
 use Rattle.wt_called_edit_laws.proofs.Parts.NoCallsCalled.{calm_items, calm_count}
 use Rattle.wt_called_edit_laws.proofs.Parts.PartByPart.{items_of}
@@ -253,26 +252,26 @@ left_whole es xs (inr e) w = ap (λ (zs : List Item). empty_end (zs ++ xs)) e �
 
 -- the tables that are open at a block
 abbrev pub open_at : List Bool → LinedBlock → List Bool
-open_at bs b = open_after bs (written_rows (length bs) b.before)
+open_at bs b = open_after bs (front_rows (length bs) b)
 
 -- what is before its line, and before the block
 abbrev pub line_front : List Item → LinedBlock → List Item
 line_front es b = es ++ joined b.before
 
 abbrev pub block_front : List Item → LinedBlock → List Item
-block_front es b = line_front es b ++ b.marks
+block_front es b = line_front es b ++ lead_of b
 
 -- a block with its lines among those of the page
 pub record IsLinedHere (pages : Pages) (page : List ℕ) (open_tables : List Bool) (es : List Item) (b : LinedBlock) (tail : List (List Item)) (p : ℕ) (qs : List Item) : Type 0 where
   pub around : Round b tail
-  pub items : es ++ joined (b.before ++ (((b.marks ++ b.first) ∷ b.more) ++ tail)) ≡ block_front es b ++ (content (own_items b) ++ (ending (own_items b) ++ joined tail))
+  pub items : es ++ joined (b.before ++ (((lead_of b ++ b.first) ∷ b.more) ++ tail)) ≡ block_front es b ++ (content (own_items b) ++ (ending (own_items b) ++ joined tail))
   pub here : IsBlockHere pages page p (block_front es b) (content (own_items b)) b.block b.text (ending (own_items b) ++ joined tail) qs
   pub block : AreBlockItems b.block b.text (content (own_items b))
   pub source_is : sources (content (own_items b)) ≡ source_of b.block b.text
-  pub stays : StayText b.block (length (open_at open_tables b)) (content (own_items b))
-  pub leads : LeadsInto b.block open_tables (joined b.before ++ b.marks)
+  pub stays : StaysOn b.sign b.block (length (open_at open_tables b)) (content (own_items b))
+  pub leads : LeadsInto b.block open_tables (joined b.before ++ lead_of b)
   pub own : AreOfPage (content (own_items b))
-  pub next_at : text_to pages page p (block_front es b) + length (sources (content (own_items b))) ≡ block_to pages page p (line_front es b) b.marks b.block b.text
+  pub next_at : text_to pages page p (block_front es b) + length (sources (content (own_items b))) ≡ block_to pages page p (line_front es b) (lead_of b) b.block b.text
 
 -- the content's first item is the page's own
 content_begins : (xs ys : List Item) → xs ≢ [] → AreOfPage xs → BeginsOwn (xs ++ ys)
@@ -280,8 +279,8 @@ content_begins [] ys some h = absurd (some refl)
 content_begins (x ∷ xs) ys some h = inr (x, xs ++ ys, refl, h.0)
 
 pub lined_here : (pages : Pages) (page : List ℕ) (open_tables : List Bool) (es : List Item) (b : LinedBlock) (tail : List (List Item)) (p : ℕ) (qs xs : List Item)
-    → AreRuns goes_on (b.before ++ (((b.marks ++ b.first) ∷ b.more) ++ tail)) xs → IsLeft es
-    → IsRest pages page p (es ++ joined (b.before ++ (((b.marks ++ b.first) ∷ b.more) ++ tail))) qs → IsLinedAt open_tables b → AreOfPage (own_items b)
+    → AreRuns goes_on (b.before ++ (((lead_of b ++ b.first) ∷ b.more) ++ tail)) xs → IsLeft es
+    → IsRest pages page p (es ++ joined (b.before ++ (((lead_of b ++ b.first) ∷ b.more) ++ tail))) qs → IsLinedAt open_tables b → AreOfPage (own_items b)
     → AreBeside (text_to pages page p (block_front es b)) (text_to pages page p (block_front es b) + length (sources (own_items b))) (expanded_page pages page).text_calls
     → IsLinedHere pages page open_tables es b tail p qs
 lined_here pages page open_tables es b tail p qs xs runs left rest h mine beside =
@@ -292,12 +291,12 @@ lined_here pages page open_tables es b tail p qs xs runs left rest h mine beside
     let others : List Item = content text ++ (ending text ++ joined tail) in
     let r : Round b tail = round b tail xs h.some runs (own_breaks text mine) in
     let n : ℕ = length (open_at open_tables b) in
-    let block = own_block b.block n b.text ts r.y r.ys r.some r.own_are h.own in
+    let block = own_block b.block (length open_tables) b.before b.sign n b.text ts r.y r.ys r.some r.own_are h.sign h.own in
     let inside : AreOfPage (content text) = of_front (content text) (ending text) (subst AreOfPage (sym (content_ending text)) mine) in
-    let items : es ++ joined (b.before ++ (((b.marks ++ b.first) ∷ b.more) ++ tail)) ≡ front ++ others =
-    ap (λ zs. es ++ zs) (r.items ∙ append_assoc before b.marks others) ∙ sym (append_assoc es before (b.marks ++ others))
-    ∙ sym (append_assoc (line_front es b) b.marks others) in
-    let is_source : sources (content text) ≡ source_of b.block b.text = own_source b.block n b.text ts h.own in
+    let items : es ++ joined (b.before ++ (((lead_of b ++ b.first) ∷ b.more) ++ tail)) ≡ front ++ others =
+    ap (λ zs. es ++ zs) (r.items ∙ append_assoc before (lead_of b) others) ∙ sym (append_assoc es before (lead_of b ++ others))
+    ∙ sym (append_assoc (line_front es b) (lead_of b) others) in
+    let is_source : sources (content text) ≡ source_of b.block b.text = own_source b.sign b.block n b.text ts h.own in
     let from : ℕ = text_to pages page p front in
     let to : ℕ = from + length (source_of b.block b.text) in
     let spans : List Span = (expanded_page pages page).text_calls in
@@ -316,7 +315,7 @@ lined_here pages page open_tables es b tail p qs xs runs left rest h mine beside
       block = block.0;
       source_is = is_source;
       stays = block.1;
-      leads = leads_by b.block open_tables b.before b.marks h.are_marks r.front_are r.front_whole h.in_cells h.apart;
+      leads = leads_by b.block open_tables b.before b.sign b.marks h.are_marks h.sign r.front_are r.front_whole h.in_cells h.apart;
       own = inside;
       next_at = next_at;
     }
@@ -348,7 +347,7 @@ record ArePartsHere (pages : Pages) (page : List ℕ) (es : List Item) (b : Line
 
 parts_here : (pages : Pages) (page : List ℕ) (open_tables : List Bool) (es : List Item) (b : LinedBlock) (tail : List (List Item)) (p : ℕ) (qs : List Item)
     → IsLinedHere pages page open_tables es b tail p qs → (k : ℕ) (ss : List BlockSpot) (end : List ℕ) → CallsNothing (page_items (source_of b.block b.text))
-    → es ++ joined (b.before ++ (((b.marks ++ b.first) ∷ b.more) ++ tail)) ≡ called_items pages k (spot_of pages page es b ∷ ss) end
+    → es ++ joined (b.before ++ (((lead_of b ++ b.first) ∷ b.more) ++ tail)) ≡ called_items pages k (spot_of pages page es b ∷ ss) end
     → text_from (calls_of pages page) None (part_items pages k (spot_of pages page es b).before) ≡ (spot_of pages page es b).before
     → ArePartsHere pages page es b tail k ss end
 parts_here pages page open_tables es b tail p qs l k ss end calm e t =
@@ -408,8 +407,8 @@ further pages page last open_tables es [] behind p qs xs runs i f r h own led c 
 further pages page last open_tables es (b ∷ ls) behind p qs xs runs i f r h own led c u =
     let calls : List OuterCall = calls_of pages page in
     let tail : List (List Item) = all_lines ls behind in
-    let front : List Item = joined b.before ++ b.marks in
-    let some = some_lines b.before (b.marks ++ b.first) (b.more ++ tail) in
+    let front : List Item = joined b.before ++ lead_of b in
+    let some = some_lines b.before (lead_of b ++ b.first) (b.more ++ tail) in
     let is_break : es ≡ break ∷ [] = f some.0 some.1 some.2 in
     let l : IsLinedHere pages page open_tables es b tail p qs =
     lined_here pages page open_tables es b tail p qs xs runs (inr is_break) r h.1 own.0 u.0 in
@@ -417,13 +416,13 @@ further pages page last open_tables es (b ∷ ls) behind p qs xs runs i f r h ow
     let left : List Item = ending (own_items b) in
     let ss : List BlockSpot = spots_on calls left ls in
     let end : List ℕ = end_on calls left ls behind in
-    let end_at : ℕ = block_to pages page p (line_front es b) b.marks b.block b.text in
+    let end_at : ℕ = block_to pages page p (line_front es b) (lead_of b) b.block b.text in
     let d : AreLinedCuts pages page b.block now left ls behind end_at l.here.behind =
     further pages page b.block now left ls behind end_at l.here.behind (joined tail) l.around.tail_runs l.around.own_ending
     l.around.ends l.here.next h.2 own.2 led.1 c.1 (subst (λ (n : ℕ). AreUntouched calls (expanded_page pages page).text_calls n left ls) l.next_at u.1) in
     let calm : CallsNothing (page_items (source_of b.block b.text)) = subst CallsNothing (sym l.here.alone) own.1 in
-    let rows : List Row = written_rows (length open_tables) b.before in
-    let same : rows_of_part open_tables front ≡ rows = rows_by open_tables b.before b.marks h.1.are_marks l.around.front_are l.around.front_whole in
+    let rows : List Row = front_rows (length open_tables) b in
+    let same : rows_of_part open_tables front ≡ rows = rows_by open_tables b.block b.before b.sign b.marks h.1.are_marks h.1.sign l.around.front_are l.around.front_whole in
     record {
       cuts = (
         record { before = l.here.before; own = content (own_items b); rest = l.here.behind; is = l.here.is; source = l.here.source; block = l.block },
@@ -446,8 +445,8 @@ further pages page last open_tables es (b ∷ ls) behind p qs xs runs i f r h ow
           subst P (ap (λ (zs : List Item). block_front zs b) (sym is_break) ∙ sym parts.first) (
             (refl, subst (NextApart last b.block) (sym same) h.0),
             l.leads,
-            inl (subst (λ (rs : List Row). StayText b.block (length (open_after open_tables rs)) (page_items b.text)) (sym same)
-                (l.here.stays (length now) l.stays)),
+            stays_by b.block open_tables b.before b.sign b.marks (page_items b.text) h.1.are_marks h.1.sign l.around.front_are l.around.front_whole
+                (l.here.stays b.sign (length now) l.stays),
             subst (λ (rs : List Row). StandAfter b.block (open_after open_tables rs) (spots_among pages n ss) (items_behind pages n ss end)) (sym same) later,
           );
     }
@@ -476,8 +475,8 @@ lined_among pages page [] behind h = absurd h.lined
 lined_among pages page (b ∷ ls) behind h =
     let calls : List OuterCall = calls_of pages page in
     let tail : List (List Item) = all_lines ls behind in
-    let ts : List (List Item) = (b.marks ++ b.first) ∷ b.more in
-    let front : List Item = joined b.before ++ b.marks in
+    let ts : List (List Item) = (lead_of b ++ b.first) ∷ b.more in
+    let front : List Item = joined b.before ++ lead_of b in
     let xs : List Item = (expanded_page pages page).items in
     let runs : AreRuns goes_on (b.before ++ (ts ++ tail)) xs = subst (λ (ks : List (List Item)). AreRuns goes_on ks xs) h.are (runs_are goes_on xs) in
     let all : xs ≡ joined (b.before ++ (ts ++ tail)) = joined_is goes_on (b.before ++ (ts ++ tail)) xs runs in
@@ -489,7 +488,7 @@ lined_among pages page (b ∷ ls) behind h =
     let s : BlockSpot = spot_of pages page [] b in
     let ss : List BlockSpot = spots_on calls left ls in
     let end : List ℕ = end_on calls left ls behind in
-    let end_at : ℕ = block_to pages page 0 (joined b.before) b.marks b.block b.text in
+    let end_at : ℕ = block_to pages page 0 (joined b.before) (lead_of b) b.block b.text in
     let d : AreLinedCuts pages page b.block now left ls behind end_at l.here.behind =
     further pages page b.block now left ls behind end_at l.here.behind (joined tail) l.around.tail_runs l.around.own_ending
     l.around.ends l.here.next h.lined.1 h.own.2 h.led.1 h.closed.1
@@ -521,8 +520,8 @@ lined_among pages page (b ∷ ls) behind h =
     let n : ℕ = 0 + calls_in pages s.before in
     let later = subst (λ (i : ℕ). StandAfter b.block now (spots_among pages i ss) (items_behind pages i ss end)) parts.count
     (d.stand (calls_past pages 0 s) parts.rest texts.1) in
-    let rows : List Row = written_rows 0 b.before in
-    let rows_are : rows_of_part [] front ≡ rows = rows_by [] b.before b.marks h.lined.0.are_marks l.around.front_are l.around.front_whole in
+    let rows : List Row = front_rows 0 b in
+    let rows_are : rows_of_part [] front ≡ rows = rows_by [] b.block b.before b.sign b.marks h.lined.0.are_marks h.lined.0.sign l.around.front_are l.around.front_whole in
     let P : List Item → Type 0 = λ zs. LeadsInto b.block [] zs × StaysIn b.block [] zs (page_items b.text)
     × StandAfter b.block (open_behind_part [] zs) (spots_among pages n ss) (items_behind pages n ss end) in (
       same,
@@ -534,7 +533,8 @@ lined_among pages page (b ∷ ls) behind h =
         free = h.free;
         stand = subst P (sym parts.first) (
           l.leads,
-          inl (subst (λ (rs : List Row). StayText b.block (length (open_after [] rs)) (page_items b.text)) (sym rows_are) (l.here.stays (length now) l.stays)),
+          stays_by b.block [] b.before b.sign b.marks (page_items b.text) h.lined.0.are_marks h.lined.0.sign l.around.front_are l.around.front_whole
+              (l.here.stays b.sign (length now) l.stays),
           subst (λ (rs : List Row). StandAfter b.block (open_after [] rs) (spots_among pages n ss) (items_behind pages n ss end)) (sym rows_are) later,
         );
         unrefused = subst (λ (bs : List ℕ). refusal_of_page pages bs ≡ None) (sym same) h.unrefused;

@@ -19,7 +19,7 @@ use Rattle.wt_text_edit_laws.proofs.Cuts.TextLines.{joined_is, runs_behind}
 use Rattle.wt_called_edit_laws.specs.AnyBlocks.{open_after}
 use Rattle.wt_called_edit_laws.specs.LinedAmong.{spots_on, end_on, AreOfPage, AreOwnLines, AreBeside, AreUntouched, IsLinedAmong}
 use Rattle.wt_called_edit_laws.specs.LinedHeadings.{sides_of, text_of, IsLinedHeading}
-use Rattle.wt_called_edit_laws.specs.PlacedLines.{LinedBlock, all_lines, OwnLined, IsLinedAt, AreLinedAfter, AreLined}
+use Rattle.wt_called_edit_laws.specs.PlacedLines.{LinedBlock, all_lines, OwnLined, IsLinedAt, AreLinedAfter, AreLined, lead_of}
 use Rattle.wt_called_edit_laws.specs.ToldAmong.{IsToldAmong}
 use Rattle.wt_called_edit_laws.specs.ToldLines.{Told, a_paragraph_of, a_heading_on, lined, OwnTold, rows_before, IsToldAt, AreToldAfter, AreTold}
 use Rattle.wt_called_edit_laws.proofs.Among.BlockAt.{calls_of, IsRest, text_to, block_to, IsPast, BeginsOwn, past_before, IsPastOwn, past_own, beside_first}
@@ -74,19 +74,19 @@ heading_here pages page n p xs l ys qs r some own beside closed run h =
 -- ---- one block
 
 pub line_items : (es : List Item) (b : LinedBlock) (tail : List (List Item))
-    → es ++ joined (b.before ++ (((b.marks ++ b.first) ∷ b.more) ++ tail)) ≡ block_front es b ++ (own_items b ++ joined tail)
+    → es ++ joined (b.before ++ (((lead_of b ++ b.first) ∷ b.more) ++ tail)) ≡ block_front es b ++ (own_items b ++ joined tail)
 line_items es b tail =
     let rest : List Item = own_items b ++ joined tail in
-    ap (λ zs. es ++ zs) (lines_joined b tail ∙ append_assoc (joined b.before) b.marks rest) ∙ sym (append_assoc es (joined b.before) (b.marks ++ rest))
-    ∙ sym (append_assoc (line_front es b) b.marks rest)
+    ap (λ zs. es ++ zs) (lines_joined b tail ∙ append_assoc (joined b.before) (lead_of b) rest) ∙ sym (append_assoc es (joined b.before) (lead_of b ++ rest))
+    ∙ sym (append_assoc (line_front es b) (lead_of b) rest)
 
 own_told : (pages : Pages) (page : List ℕ) (t : Told) (n p : ℕ) (es : List Item) (tail : List (List Item)) (qs xs : List Item) → 1 ≤ length (lined t).first
-    → AreRuns goes_on ((lined t).before ++ ((((lined t).marks ++ (lined t).first) ∷ (lined t).more) ++ tail)) xs
+    → AreRuns goes_on ((lined t).before ++ (((lead_of (lined t) ++ (lined t).first) ∷ (lined t).more) ++ tail)) xs
     → IsRest pages page p (block_front es (lined t) ++ (own_items (lined t) ++ joined tail)) qs → AreOfPage (own_items (lined t))
     → AreBeside (text_to pages page p (block_front es (lined t))) (text_to pages page p (block_front es (lined t)) + length (sources (own_items (lined t))))
     (expanded_page pages page).text_calls
-    → IsClosed (lined t) tail → OwnTold t n → OwnLined (lined t).block n (lined t).text ((lined t).first ∷ (lined t).more)
-own_told pages page (a_paragraph_of before marks first more) n p es tail qs xs some runs r own beside closed h = (h.0, h.1, refl)
+    → IsClosed (lined t) tail → OwnTold t n → OwnLined (lined t).sign (lined t).block n (lined t).text ((lined t).first ∷ (lined t).more)
+own_told pages page (a_paragraph_of before sign marks first more) n p es tail qs xs some runs r own beside closed h = (h.0, h.1, refl)
 own_told pages page (a_heading_on before marks l) n p es tail qs xs some runs r own beside closed h =
     let one : l ++ [] ≡ l = append-nil l in
     let lines = runs_behind goes_on before ((marks ++ l) ∷ tail) xs runs in
@@ -103,8 +103,8 @@ own_told pages page (a_heading_on before marks l) n p es tail qs xs some runs r 
     subst (λ (ys : List Item). AreHeadingItems (sides_of (content l)) (text_of (content l)) (content ys)) (sym one) head
 
 pub told_at : (pages : Pages) (page : List ℕ) (open_tables : List Bool) (t : Told) (p : ℕ) (es : List Item) (tail : List (List Item)) (qs xs : List Item)
-    → AreRuns goes_on ((lined t).before ++ ((((lined t).marks ++ (lined t).first) ∷ (lined t).more) ++ tail)) xs
-    → IsRest pages page p (es ++ joined ((lined t).before ++ ((((lined t).marks ++ (lined t).first) ∷ (lined t).more) ++ tail))) qs → AreOfPage (own_items (lined t))
+    → AreRuns goes_on ((lined t).before ++ (((lead_of (lined t) ++ (lined t).first) ∷ (lined t).more) ++ tail)) xs
+    → IsRest pages page p (es ++ joined ((lined t).before ++ (((lead_of (lined t) ++ (lined t).first) ∷ (lined t).more) ++ tail))) qs → AreOfPage (own_items (lined t))
     → AreBeside (text_to pages page p (block_front es (lined t))) (text_to pages page p (block_front es (lined t)) + length (sources (own_items (lined t))))
     (expanded_page pages page).text_calls
     → IsClosed (lined t) tail → IsToldAt open_tables t → IsLinedAt open_tables (lined t)
@@ -112,6 +112,8 @@ told_at pages page open_tables t p es tail qs xs runs r own beside closed h =
     let b : LinedBlock = lined t in
     let own_there : IsRest pages page p (block_front es b ++ (own_items b ++ joined tail)) qs = subst (λ zs. IsRest pages page p zs qs) (line_items es b tail) r in
     record {
+      sign = h.sign;
+      unclosed = h.unclosed;
       are_marks = h.are_marks;
       some = h.some;
       in_cells = h.in_cells;
@@ -144,7 +146,7 @@ told_after pages page last open_tables es [] behind p qs xs runs f r h own c u =
 told_after pages page last open_tables es (t ∷ ts) behind p qs xs runs f r h own c u =
     let b : LinedBlock = lined t in
     let tail : List (List Item) = all_lines (map lined ts) behind in
-    let some = some_lines b.before (b.marks ++ b.first) (b.more ++ tail) in
+    let some = some_lines b.before (lead_of b ++ b.first) (b.more ++ tail) in
     let is_break : es ≡ break ∷ [] = f some.0 some.1 some.2 in
     let here : IsClosed b tail = closed_here (calls_of pages page) t (open_after open_tables (rows_before open_tables t)) ts behind h.2 c.0 in
     let at : IsLinedAt open_tables b = told_at pages page open_tables t p es tail qs xs runs r own.0 u.0 here h.1 in
@@ -152,7 +154,7 @@ told_after pages page last open_tables es (t ∷ ts) behind p qs xs runs f r h o
     let left : List Item = ending (own_items b) in (
       h.0,
       at,
-      told_after pages page b.block (open_after open_tables (rows_before open_tables t)) left ts behind (block_to pages page p (line_front es b) b.marks b.block b.text)
+      told_after pages page b.block (open_after open_tables (rows_before open_tables t)) left ts behind (block_to pages page p (line_front es b) (lead_of b) b.block b.text)
           l.here.behind (joined tail) l.around.tail_runs l.around.ends l.here.next h.2 own.2 c.1
           (subst (λ (n : ℕ). AreUntouched (calls_of pages page) (expanded_page pages page).text_calls n left (map lined ts)) l.next_at u.1),
     )
@@ -170,7 +172,7 @@ all_told pages page [] behind h = absurd h.told
 all_told pages page (t ∷ ts) behind h =
     let b : LinedBlock = lined t in
     let tail : List (List Item) = all_lines (map lined ts) behind in
-    let lines : List (List Item) = b.before ++ (((b.marks ++ b.first) ∷ b.more) ++ tail) in
+    let lines : List (List Item) = b.before ++ (((lead_of b ++ b.first) ∷ b.more) ++ tail) in
     let xs : List Item = (expanded_page pages page).items in
     let runs : AreRuns goes_on lines xs = subst (λ (ks : List (List Item)). AreRuns goes_on ks xs) h.are (runs_are goes_on xs) in
     let r : IsRest pages page 0 ([] ++ joined lines) (page_items page) = page_rest pages page lines (joined_is goes_on lines xs runs) in
@@ -180,7 +182,7 @@ all_told pages page (t ∷ ts) behind h =
     lined_here pages page [] [] b tail 0 (page_items page) xs runs (inl refl) r at h.own.0 h.untouched.0 in
     let left : List Item = ending (own_items b) in (
       at,
-      told_after pages page b.block (open_after [] (rows_before [] t)) left ts behind (block_to pages page 0 (line_front [] b) b.marks b.block b.text)
+      told_after pages page b.block (open_after [] (rows_before [] t)) left ts behind (block_to pages page 0 (line_front [] b) (lead_of b) b.block b.text)
           l.here.behind (joined tail) l.around.tail_runs l.around.ends l.here.next h.told.1
           h.own.2 h.closed.1 (subst (λ (n : ℕ). AreUntouched (calls_of pages page) (expanded_page pages page).text_calls n left (map lined ts)) l.next_at h.untouched.1),
     )

@@ -48,7 +48,7 @@ use Rattle.wt_text_edit_laws.specs.TypedHeadings.{spaced}
 use Rattle.wt_called_edit_laws.specs.Covered.{AreInNoGroup}
 use Rattle.wt_called_edit_laws.specs.Groups.{called_tree}
 use Rattle.wt_called_edit_laws.specs.LinedAmong.{spots_of_lines, end_of_lines, AreOfPage, AreOwnLines, AreLed, AreUntouched}
-use Rattle.wt_called_edit_laws.specs.PlacedLines.{LinedBlock, all_lines}
+use Rattle.wt_called_edit_laws.specs.PlacedLines.{LinedBlock, all_lines, lead_of}
 use Rattle.wt_called_edit_laws.specs.ToldAmong.{IsToldAmong}
 use Rattle.wt_called_edit_laws.specs.ToldLines.{Told, a_paragraph_of, a_heading_on, lined, AreTold}
 use Rattle.wt_called_edit_laws.proofs.Cells.ClassCases.{a_word, a_title, in_a_cell, whole_page, in_class}
@@ -57,7 +57,7 @@ use Rattle.wt_called_edit_laws.proofs.Cells.ClassCases.{a_word, a_title, in_a_ce
 abbrev told : List Told
 told =
     a_heading_on ((char (Some 0) 98 ∷ char None 10 ∷ []) ∷ (char None 10 ∷ []) ∷ []) [] (page_chars (codes "== h ==\n"))
-    ∷ a_paragraph_of (page_chars (codes "{|\n") ∷ page_chars (codes "|\n") ∷ []) [] (page_chars (codes "x<br>y\n")) []
+    ∷ a_paragraph_of (page_chars (codes "{|\n") ∷ page_chars (codes "|\n") ∷ []) [] [] (page_chars (codes "x<br>y\n")) []
     ∷ []
 
 abbrev last_lines : List (List Item)
@@ -101,7 +101,7 @@ spots_are = refl
 untouched_by_none : (calls : List OuterCall) (bs : List LinedBlock) (at : ℕ) (es : List Item) → AreUntouched calls [] at es bs
 untouched_by_none calls [] at es = tt
 untouched_by_none calls (b ∷ bs) at es =
-    let from : ℕ = at + length (text_from calls None ((es ++ joined b.before) ++ b.marks)) in
+    let from : ℕ = at + length (text_from calls None ((es ++ joined b.before) ++ lead_of b)) in
     let own : List Item = joined (b.first ∷ b.more) in
     (tt, untouched_by_none calls bs (from + length (sources (content own))) (ending own))
 
@@ -111,6 +111,8 @@ told_here : AreTold told last_lines
 unfolding kind_of_signs level opening inside closing
 told_here = (
   record {
+    sign = tt;
+    unclosed = tt;
     are_marks = refl;
     some = omega arith;
     in_cells = tt;
@@ -119,7 +121,7 @@ told_here = (
   },
   (
     tt,
-    record { are_marks = refl; some = omega arith; in_cells = (refl, tt); apart = refl; own = ((refl, tt), refl) },
+    record { sign = tt; unclosed = tt; are_marks = refl; some = omega arith; in_cells = (refl, tt); apart = refl; own = ((refl, tt), refl) },
     refl,
   ),
 )

@@ -201,7 +201,7 @@ heading_in page s q h =
 
 -- ---- a paragraph by lines
 
-texts_at : (n : ℕ) (ls : List (List Item)) → AreLinesAt n ls → All (λ (l : List Item). line_kind n l ≡ line.Text) (map content ls)
+pub texts_at : (n : ℕ) (ls : List (List Item)) → AreLinesAt n ls → All (λ (l : List Item). line_kind n l ≡ line.Text) (map content ls)
 texts_at n [] h = All-nil (λ (l : List Item). line_kind n l ≡ line.Text)
 texts_at n (l ∷ ls) h = All-cons (λ (l : List Item). line_kind n l ≡ line.Text) (content l) (map content ls) h.0 (texts_at n ls h.1)
 

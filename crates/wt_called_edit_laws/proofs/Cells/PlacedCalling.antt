@@ -1,5 +1,5 @@
 -- A page that is cut at paragraphs and headings, which may hold calls: its parts are read and expanded each by itself, and it may be edited.
-use Rattle.std.proofs.Common.{arith, ◌≡◌, inl, inr, ℕ, ◌<◌, Bool, true, false, List, [], ◌∷◌, ◌++◌, length, refl, sym, ap, ◌∙◌, length-append}
+use Rattle.std.proofs.Common.{arith, ◌≡◌, inr, ℕ, ◌<◌, Bool, true, false, List, [], ◌∷◌, ◌++◌, length, refl, sym, ap, ◌∙◌, length-append}
 use Rattle.std.specs.Str.{IsUtf8}
 use Rattle.wt_span.specs.declared.form.Mode.TheVariants.{Page}
 use Rattle.wt_span.specs.Items.{Item, sources}
@@ -12,17 +12,17 @@ use Rattle.wt_text_edit_laws.specs.BlockSpots.{BlockSpot, spots_source, EndBefor
 use Rattle.wt_text_edit_laws.specs.NoCalls.{NonePairs}
 use Rattle.wt_text_edit_laws.specs.PageCuts.{BeginsBreak, EndsThere}
 use Rattle.wt_text_edit_laws.specs.ReadContents.{begins_shown, IsReadContent}
-use Rattle.wt_text_edit_laws.specs.TextBetween.{AreEnded, HasEndsBefore, BeginsShown, LineEnds}
+use Rattle.wt_text_edit_laws.specs.TextBetween.{HasEndsBefore, BeginsShown, LineEnds}
+use Rattle.wt_text_edit_laws.specs.SignParts.{IsLedTo}
 use Rattle.wt_text_edit_laws.specs.TextBlocks.{TextBlock, source_of, block_items}
 use Rattle.wt_text_edit_laws.proofs.Blocks.BlockReading.{content_begins, block_shown}
 use Rattle.wt_text_edit_laws.proofs.Cuts.ItemCuts.{page_cut, cut_from, alone_after}
-use Rattle.wt_text_edit_laws.proofs.Cuts.SettledEnds.{settled_ends}
 use Rattle.wt_text_edit_laws.proofs.Cuts.Seen.{shown_alone}
-use Rattle.wt_text_edit_laws.proofs.Cuts.Utf8Cuts.{ended_utf8, there_utf8}
+use Rattle.wt_text_edit_laws.proofs.Cuts.Utf8Cuts.{led_utf8, there_utf8}
 use Rattle.wt_text_edit_laws.proofs.Prose.InFront.{reads_nothing, read_items}
 use Rattle.wt_beside_laws.proofs.Derived.BlockContents.{there_begins}
 use Rattle.wt_beside_laws.proofs.Derived.CutPages.{begins_line, ends_line, line_ended}
-use Rattle.wt_text_edit_laws.proofs.Cuts.LedCuts.{ends_plain}
+use Rattle.wt_text_edit_laws.proofs.Cuts.LedCuts.{led_ends}
 use Rattle.wt_called_edit_laws.specs.CallingBlocks.{IsContentIn, AreContentsInFolder, spots_with_calls, items_past}
 use Rattle.wt_called_edit_laws.specs.EditableBlocks.{IsEditableWithCalls}
 use Rattle.wt_called_edit_laws.specs.ItemSpots.{AreContentsIn}
@@ -58,8 +58,8 @@ record PartRead (s : BlockSpot) (rest : List ℕ) (zs : List Item) : Type 0 wher
   rest_is : page_items rest ≡ zs
 
 part_read : (s : BlockSpot) (rest : List ℕ) (zs : List Item) (c : IsCutAt s zs) → page_items (s.before ++ (source_of s.block s.text ++ rest)) ≡ zs
-    → IsUtf8 (s.before ++ (source_of s.block s.text ++ rest)) → AreEnded s.before → EndsThere rest → IsReadContent s.block s.text → PartRead s rest c.rest
-part_read s rest zs c e u ended there h =
+    → IsUtf8 (s.before ++ (source_of s.block s.text ++ rest)) → IsLedTo s.before s.block s.text → EndsThere rest → IsReadContent s.block s.text → PartRead s rest c.rest
+part_read s rest zs c e u led there h =
     let line : List ℕ = source_of s.block s.text in
     let own : List Item = block_items s.block s.text in
     let whole : page_items (s.before ++ (line ++ rest)) ≡ c.before ++ (own ++ c.rest) = e ∙ c.is in
@@ -70,7 +70,7 @@ part_read s rest zs c e u ended there h =
     let behind : page_items rest ≡ c.rest = alone_after (after_all (lexer Page) after line) rest c.rest (there_begins rest there) second.behind in
     let all : page_items (line ++ rest) ≡ own ++ c.rest =
     shown_alone after (line ++ rest) (own ++ c.rest) (block_begins s.block s.text rest h there) first.behind in
-    let before_parts = ended_utf8 s.before (line ++ rest) ended u in
+    let before_parts = led_utf8 s.before s.block s.text (line ++ rest) led u in
     let line_parts = there_utf8 line rest there before_parts.1 in
     let some : 0 < length line = some_bytes line own h.unended (block_shown s.block s.text h) in
     let sum = length-append line rest in
@@ -78,7 +78,7 @@ part_read s rest zs c e u ended there h =
     record {
       before_utf8 = before_parts.0;
       rest_utf8 = line_parts.1;
-      ends = settled_ends s.before (line ++ rest) more (first.settles (inl (ends_plain s.before ended)));
+      ends = led_ends s rest c.before (own ++ c.rest) led there more c.source whole;
       line = line_ended line own rest c.rest own_source there all behind;
       rest_is = behind;
     }
@@ -100,7 +100,7 @@ further_read pages (s ∷ ss) behind zs e u h c =
     let own : IsContentIn pages s.block s.text = c.0 in
     let r = part_read s (spots_source ss behind) zs h.0 e u h.1 (further_there ss behind h.0.rest h.3) own.read in
     let more = further_read pages ss behind h.0.rest r.rest_is r.rest_utf8 h.3 c.1 in (
-      (record { led = inl h.1; before_utf8 = r.before_utf8; block = own.read }, begins_line s.before h.2, more.0),
+      (record { led = h.1; before_utf8 = r.before_utf8; block = own.read }, begins_line s.before h.2, more.0),
       (r.ends, inr r.line, more.1),
     )
 
@@ -128,7 +128,7 @@ parts_read pages s ss behind u h c =
     let r = part_read s (spots_source ss behind) (page_items page) h.0 refl u h.1 (further_there ss behind h.0.rest h.2) own.read in
     let more = further_read pages ss behind h.0.rest r.rest_is r.rest_utf8 h.2 c.1 in
     record {
-      first = record { led = inl h.1; before_utf8 = r.before_utf8; block = own.read };
+      first = record { led = h.1; before_utf8 = r.before_utf8; block = own.read };
       rest = more.0;
       ends = (r.ends, inr r.line, more.1);
     }

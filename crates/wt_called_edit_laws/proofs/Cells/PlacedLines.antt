@@ -1,6 +1,5 @@
 -- Any number of paragraphs and headings of a page by its lines: the page's items are cut at each.
-use Rattle.std.proofs.Common.{arith, ◌≡◌, ◌≤◌, ℕ, Bool, true, List, [], ◌∷◌, ◌++◌, length, refl, sym, ap, ◌∙◌, subst, append-nil, append_assoc, length-append, inl}
-use Rattle.std.specs.Prelude.{◌&&◌, if◌then◌else◌}
+use Rattle.std.proofs.Common.{arith, ◌≡◌, ◌≤◌, ℕ, Bool, true, false, List, [], ◌∷◌, ◌++◌, length, refl, sym, ap, ◌∙◌, subst, append_assoc, length-append}
 use Rattle.std.specs.List.{list_all}
 use Rattle.std.specs.Str.{IsUtf8}
 use Rattle.std.proofs.lemmas.Grind.{flat_map-append}
@@ -15,67 +14,28 @@ use Rattle.wt_page.specs.Rows.{Row, rows_from}
 use Rattle.wt_expand.specs.PageItems.{page_items}
 use Rattle.wt_expand.specs.Work.{Pages}
 use Rattle.wt_expand.proofs.PageLaws.{page_sources}
-use Rattle.wt_part_laws.specs.Slots.{AllTrue}
 use Rattle.wt_text_edit_laws.specs.BlockSpots.{spots_source}
 use Rattle.wt_text_edit_laws.specs.NoCalls.{CallsNothing}
 use Rattle.wt_text_edit_laws.specs.Parts.{HasNoGroups}
-use Rattle.wt_text_edit_laws.specs.PageCuts.{AreTextItems, AreBlockItems, EndsThere}
-use Rattle.wt_text_edit_laws.specs.ParagraphBetween.{written_rows, before_marks, BeginApart}
+use Rattle.wt_text_edit_laws.specs.PageCuts.{EndsThere}
+use Rattle.wt_text_edit_laws.specs.ParagraphBetween.{BeginApart}
 use Rattle.wt_text_edit_laws.specs.ParagraphParts.{break}
-use Rattle.wt_text_edit_laws.specs.TextBetween.{AreEnded}
+use Rattle.wt_text_edit_laws.specs.SignParts.{IsLedTo}
 use Rattle.wt_text_edit_laws.specs.TextBlocks.{TextBlock, a_paragraph, a_heading, source_of}
-use Rattle.wt_text_edit_laws.proofs.Cuts.TextLines.{runs_behind, runs_before, joined_is, joined_both, lines_of, whole_before, no_marks_end, ending_break, IsEnding, ending_own, some_items, ended_bytes}
+use Rattle.wt_text_edit_laws.proofs.Cuts.ItemCuts.{HaveBytes, page_from, from_has}
+use Rattle.wt_text_edit_laws.proofs.Cuts.TextLines.{runs_behind, runs_before, joined_is, joined_both, lines_of, whole_before, ending_break, IsEnding, ending_own, some_items, ended_bytes}
 use Rattle.wt_text_edit_laws.proofs.Paragraphs.LineBlocks.{OwnBreaks, page_breaks}
 use Rattle.wt_beside_laws.specs.OpenEnds.{MarksEnd}
 use Rattle.wt_beside_laws.proofs.Derived.BlockContents.{block_source}
-use Rattle.wt_beside_laws.proofs.Own.OpenEnds.{page_marks, marks_behind, marks_ended as page_marks_ended}
-use Rattle.wt_called_edit_laws.specs.AnyBlocks.{open_after, rows_of_part, EndsFor, NextApart, LeadsInto, EndsAfter}
-use Rattle.wt_called_edit_laws.specs.CalledContents.{StayText}
+use Rattle.wt_beside_laws.proofs.Own.OpenEnds.{page_marks, marks_behind}
+use Rattle.wt_called_edit_laws.specs.AnyBlocks.{open_after, rows_of_part, NextApart, EndsAfter}
 use Rattle.wt_called_edit_laws.specs.CalledPages.{IsCalledPage}
-use Rattle.wt_called_edit_laws.specs.PlacedLines.{LinedBlock, all_lines, spots_by, end_by, OwnLined, LinesApart, AreLinedAfter, AreLined, IsLinedPage}
+use Rattle.wt_called_edit_laws.specs.PlacedLines.{LinedBlock, lead_of, all_lines, spots_by, end_by, front_rows, OwnLined, LinesApart, AreLinedAfter, AreLined, IsLinedPage}
 use Rattle.wt_called_edit_laws.specs.PlacedSpots.{AreFurtherIn, AreBlocksIn, IsPlacedPage}
+use Rattle.wt_called_edit_laws.specs.SignLines.{IsSignFor, IsApartFrom}
+use Rattle.wt_called_edit_laws.proofs.Cells.PlacedBlocks.{own_first, own_rest, text_last}
 use Rattle.wt_called_edit_laws.proofs.Cells.PlacedSpots.{spots_called}
-use Rattle.wt_called_edit_laws.proofs.Cells.PlacedBlocks.{own_first, own_rest, own_lines, text_last}
-
--- ---- one block
-
--- marks behind some items don't count as theirs
-all_off : (xs ms : List Item) → list_all is_mark ms ≡ true → list_all is_mark (xs ++ ms) ≡ list_all is_mark xs
-all_off [] ms e = e
-all_off (x ∷ xs) ms e = ap (λ (v : Bool). is_mark x && v) (all_off xs ms e)
-
-marks_off : (xs ms : List Item) → list_all is_mark ms ≡ true → before_marks (xs ++ ms) ≡ before_marks xs
-marks_off [] [] e = refl
-marks_off [] (m ∷ ms) e = ap (λ (v : Bool). if v then [] else m ∷ before_marks ms) e
-marks_off (x ∷ xs) ms e =
-    ap (λ (v : Bool). if v then [] else x ∷ before_marks (xs ++ ms)) (all_off (x ∷ xs) ms e)
-    ∙ ap (λ (ys : List Item). if list_all is_mark (x ∷ xs) then [] else x ∷ ys) (marks_off xs ms e)
-
-front_off : (ls : List (List Item)) (ms : List Item) → list_all is_mark ms ≡ true → empty_end (joined ls) ≡ [] ∷ [] → before_marks (joined ls ++ ms) ≡ joined ls
-front_off ls ms all whole = marks_off (joined ls) ms all ∙ no_marks_end (joined ls) whole
-
-pub rows_by : (bs : List Bool) (ls : List (List Item)) (ms : List Item) → list_all is_mark ms ≡ true → full_lines (joined ls) ≡ ls
-    → empty_end (joined ls) ≡ [] ∷ [] → rows_of_part bs (joined ls ++ ms) ≡ written_rows (length bs) ls
-rows_by bs ls ms all are whole =
-    ap (λ (xs : List Item). written_rows (length bs) (full_lines xs)) (front_off ls ms all whole) ∙ ap (written_rows (length bs)) are
-
-pub leads_by : (k : TextBlock) (bs : List Bool) (ls : List (List Item)) (ms : List Item) → list_all is_mark ms ≡ true → full_lines (joined ls) ≡ ls
-    → empty_end (joined ls) ≡ [] ∷ [] → AllTrue (open_after bs (written_rows (length bs) ls)) → EndsFor k (written_rows (length bs) ls)
-    → LeadsInto k bs (joined ls ++ ms)
-leads_by k bs ls ms all are whole cells apart =
-    let same : rows_of_part bs (joined ls ++ ms) ≡ written_rows (length bs) ls = rows_by bs ls ms all are whole in
-    record {
-      whole = inl (subst (λ (xs : List Item). empty_end xs ≡ [] ∷ []) (sym (front_off ls ms all whole)) whole);
-      in_cells = subst (λ (rs : List Row). AllTrue (open_after bs rs)) (sym same) cells;
-      apart = subst (EndsFor k) (sym same) apart;
-    }
-
-pub own_block : (k : TextBlock) (n : ℕ) (q : List ℕ) (ts : List (List Item)) (y : Item) (ys : List Item) → joined ts ≡ y ∷ ys → full_lines (joined ts) ≡ ts
-    → OwnLined k n q ts → AreBlockItems k q (content (joined ts)) × StayText k n (content (joined ts))
-own_block a_paragraph n q ts y ys is e h =
-    let told = own_lines n (joined ts) ts y ys is e h.0 in
-    (subst (λ (bs : List ℕ). AreTextItems bs (content (joined ts))) h.2 (told.items h.1), told.stays)
-own_block (a_heading s) n q ts y ys is e h = (h, tt)
+use Rattle.wt_called_edit_laws.proofs.Cells.SignLeads.{rows_by, leads_by, own_block, stays_by, have_front, have_behind, lead_led}
 
 -- ---- line breaks
 
@@ -86,19 +46,6 @@ past_end (y ∷ ys) e = e
 pub some_lines : (us : List (List Item)) (m : List Item) (ms : List (List Item)) → (l : List Item) × (ls : List (List Item)) × (us ++ m ∷ ms ≡ l ∷ ls)
 some_lines [] m ms = (m, ms, refl)
 some_lines (u ∷ us) m ms = (u, us ++ m ∷ ms, refl)
-
--- what ends so, and behind it what does
-ends_behind : (b : ℕ) (bs : List ℕ) (c : ℕ) (cs : List ℕ) → AreEnded (c ∷ cs) → AreEnded ((b ∷ bs) ++ c ∷ cs)
-ends_behind b [] c cs e = e
-ends_behind b (d ∷ bs) c cs e = ends_behind d bs c cs e
-
-pub both_end : (bs cs : List ℕ) → AreEnded bs → AreEnded cs → AreEnded (bs ++ cs)
-both_end [] cs h g = g
-both_end (b ∷ bs) [] h g = subst AreEnded (sym (append-nil (b ∷ bs))) h
-both_end (b ∷ bs) (c ∷ cs) h g = ends_behind b bs c cs g
-
-marks_ended : (xs ms : List Item) → OwnBreaks xs → empty_end xs ≡ [] ∷ [] → AreEnded (sources ms) → AreEnded (sources (xs ++ ms))
-marks_ended xs ms o e a = subst AreEnded (sym (flat_map-append source xs ms)) (both_end (sources xs) (sources ms) (ended_bytes xs o e) a)
 
 pub lines_end : (last : TextBlock) (n : ℕ) (es : List Item) (ls : List (List Item)) → IsEnding es → ((m : List Item) (ms : List (List Item)) → ls ≡ m ∷ ms → es ≡ break ∷ [])
     → full_lines (joined ls) ≡ ls → LinesApart last n ls → EndsThere (sources (es ++ joined ls)) × EndsAfter last n (es ++ joined ls)
@@ -129,8 +76,8 @@ pub record Round (b : LinedBlock) (tail : List (List Item)) : Type 0 where
   pub tail_runs : AreRuns goes_on tail (joined tail)
   pub own_ending : IsEnding (ending (own_items b))
   pub ends : (m : List Item) (ms : List (List Item)) → tail ≡ m ∷ ms → ending (own_items b) ≡ break ∷ []
-  pub items : joined (b.before ++ (((b.marks ++ b.first) ∷ b.more) ++ tail))
-      ≡ (joined b.before ++ b.marks) ++ (content (own_items b) ++ (ending (own_items b) ++ joined tail))
+  pub items : joined (b.before ++ (((lead_of b ++ b.first) ∷ b.more) ++ tail))
+      ≡ (joined b.before ++ lead_of b) ++ (content (own_items b) ++ (ending (own_items b) ++ joined tail))
 
 pub run_behind : (ms : List Item) (y : Item) (ys others : List Item) → IsRun goes_on (ms ++ y ∷ ys) others → IsRun goes_on (y ∷ ys) others
 run_behind [] y ys others h = h
@@ -145,14 +92,14 @@ runs_unmarked ms (y ∷ ys) rs xs some h =
     (h.0, ap (λ (zs : List Item). (y ∷ ys) ++ zs) (sym (joined_is goes_on rs h.0 h.3)), run_behind ms y ys h.0 h.2, h.3)
 
 pub lines_joined : (b : LinedBlock) (tail : List (List Item))
-    → joined (b.before ++ (((b.marks ++ b.first) ∷ b.more) ++ tail)) ≡ (joined b.before ++ b.marks) ++ (own_items b ++ joined tail)
+    → joined (b.before ++ (((lead_of b ++ b.first) ∷ b.more) ++ tail)) ≡ (joined b.before ++ lead_of b) ++ (own_items b ++ joined tail)
 lines_joined b tail =
-    let ks : List (List Item) = (b.marks ++ b.first) ∷ b.more in
+    let ks : List (List Item) = (lead_of b ++ b.first) ∷ b.more in
     let front : List Item = joined b.before in
     joined_both b.before (ks ++ tail)
-    ∙ ap (λ (ys : List Item). front ++ ys) (joined_both ks tail ∙ ap (λ (ys : List Item). ys ++ joined tail) (append_assoc b.marks b.first (joined b.more))
-    ∙ append_assoc b.marks (own_items b) (joined tail))
-    ∙ sym (append_assoc front b.marks (own_items b ++ joined tail))
+    ∙ ap (λ (ys : List Item). front ++ ys) (joined_both ks tail ∙ ap (λ (ys : List Item). ys ++ joined tail) (append_assoc (lead_of b) b.first (joined b.more))
+    ∙ append_assoc (lead_of b) (own_items b) (joined tail))
+    ∙ sym (append_assoc front (lead_of b) (own_items b ++ joined tail))
 
 pub text_ending : (ps : List Item) (y : Item) (ys : List Item) → ps ≡ y ∷ ys → OwnBreaks ps → empty_end ps ≡ [] ∷ [] → ending ps ≡ break ∷ []
 text_ending [] y ys is o e = cc
@@ -160,15 +107,15 @@ text_ending (x ∷ ps) y ys is o e = ending_break x ps o e
 
 -- whose line breaks are the page's own
 pub round : (b : LinedBlock) (tail : List (List Item)) (xs : List Item) → 1 ≤ length b.first
-    → AreRuns goes_on (b.before ++ (((b.marks ++ b.first) ∷ b.more) ++ tail)) xs → OwnBreaks (own_items b) → Round b tail
+    → AreRuns goes_on (b.before ++ (((lead_of b ++ b.first) ∷ b.more) ++ tail)) xs → OwnBreaks (own_items b) → Round b tail
 round b tail xs seen runs text_breaks =
     let ts : List (List Item) = b.first ∷ b.more in
-    let ks : List (List Item) = (b.marks ++ b.first) ∷ b.more in
+    let ks : List (List Item) = (lead_of b ++ b.first) ∷ b.more in
     let text : List Item = own_items b in
-    let front : List Item = joined b.before ++ b.marks in
+    let front : List Item = joined b.before ++ lead_of b in
     let last : List Item = joined tail in
     let later : AreRuns goes_on (ts ++ tail) (joined (ts ++ tail)) =
-    runs_unmarked b.marks b.first (b.more ++ tail) (joined (ks ++ tail)) seen (runs_behind goes_on b.before (ks ++ tail) xs runs) in
+    runs_unmarked (lead_of b) b.first (b.more ++ tail) (joined (ks ++ tail)) seen (runs_behind goes_on b.before (ks ++ tail) xs runs) in
     let own_runs : AreRuns goes_on ts text = runs_before goes_on ts tail (joined (ts ++ tail)) later in
     let some = some_items [] b.first b.more text own_runs in
     record {
@@ -176,7 +123,7 @@ round b tail xs seen runs text_breaks =
       ys = some.1;
       some = some.2;
       front_are = lines_of b.before (runs_before goes_on b.before (ks ++ tail) xs runs);
-      front_whole = whole_before b.before (b.marks ++ b.first) (b.more ++ tail) xs runs;
+      front_whole = whole_before b.before (lead_of b ++ b.first) (b.more ++ tail) xs runs;
       own_are = lines_of ts own_runs;
       tail_runs = runs_behind goes_on ts tail (joined (ts ++ tail)) later;
       own_ending = ending_own text text_breaks;
@@ -192,83 +139,91 @@ pub record AllBreaks (b : LinedBlock) (tail : List (List Item)) : Type 0 where
   pub text : OwnBreaks (own_items b)
   pub rest : OwnBreaks (joined tail)
 
-pub all_breaks : (b : LinedBlock) (tail : List (List Item)) (xs : List Item) → AreRuns goes_on (b.before ++ (((b.marks ++ b.first) ∷ b.more) ++ tail)) xs → OwnBreaks xs
+pub all_breaks : (b : LinedBlock) (tail : List (List Item)) (xs : List Item) → AreRuns goes_on (b.before ++ (((lead_of b ++ b.first) ∷ b.more) ++ tail)) xs → OwnBreaks xs
     → AllBreaks b tail
 all_breaks b tail xs runs o =
-    let front : List Item = joined b.before ++ b.marks in
+    let front : List Item = joined b.before ++ lead_of b in
     let all : OwnBreaks (front ++ (own_items b ++ joined tail)) =
-    subst OwnBreaks (joined_is goes_on (b.before ++ (((b.marks ++ b.first) ∷ b.more) ++ tail)) xs runs ∙ lines_joined b tail) o in
+    subst OwnBreaks (joined_is goes_on (b.before ++ (((lead_of b ++ b.first) ∷ b.more) ++ tail)) xs runs ∙ lines_joined b tail) o in
     let later : OwnBreaks (own_items b ++ joined tail) = own_rest front (own_items b ++ joined tail) all in
     record {
-      front = own_first (joined b.before) b.marks (own_first front (own_items b ++ joined tail) all);
+      front = own_first (joined b.before) (lead_of b) (own_first front (own_items b ++ joined tail) all);
       text = own_first (own_items b) (joined tail) later;
       rest = own_rest (own_items b) (joined tail) later;
     }
 
 -- ---- the marks before them
 
-led_end : (before ms ys : List Item) → MarksEnd (before ++ (ms ++ ys)) → list_all is_mark ms ≡ true → 1 ≤ length ys → AreEnded (sources ms)
-led_end before ms [] m marks some = absurd (omega (arith, some))
-led_end before ms (y ∷ ys) m marks some = page_marks_ended ms y ys marks (marks_behind before (ms ++ y ∷ ys) m)
+-- items of a page: each mark but the last ends, and each has a byte
+abbrev ArePageItems : List Item → Type 0
+ArePageItems xs = MarksEnd xs × HaveBytes xs
 
--- the marks before items of a page are ended
-pub marks_there : (page : List ℕ) (before ms ys : List Item) → page_items page ≡ before ++ (ms ++ ys) → list_all is_mark ms ≡ true → 1 ≤ length ys → AreEnded (sources ms)
-marks_there page before ms ys e marks some = led_end before ms ys (subst MarksEnd e (page_marks page)) marks some
+page_items_are : (page : List ℕ) → ArePageItems (page_items page)
+page_items_are page = (page_marks page, subst HaveBytes (sym (page_from page)) (from_has false 0 page))
 
--- so of the lines of a block, and those behind them
-record AreMarksThere (b : LinedBlock) (tail : List (List Item)) : Type 0 where
-  ended : list_all is_mark b.marks ≡ true → 1 ≤ length b.first → AreEnded (sources b.marks)
-  rest : MarksEnd (joined tail)
+-- so of what begins the line of a block, of its lines and those behind it
+record AreLeadThere (b : LinedBlock) (tail : List (List Item)) : Type 0 where
+  ended : MarksEnd (lead_of b ++ (own_items b ++ joined tail))
+  full : HaveBytes (lead_of b)
+  rest : ArePageItems (joined tail)
 
-all_marks : (b : LinedBlock) (tail : List (List Item)) (xs : List Item) → AreRuns goes_on (b.before ++ (((b.marks ++ b.first) ∷ b.more) ++ tail)) xs → MarksEnd xs
-    → AreMarksThere b tail
-all_marks b tail xs runs m =
+lead_there : (b : LinedBlock) (tail : List (List Item)) (xs : List Item) → AreRuns goes_on (b.before ++ (((lead_of b ++ b.first) ∷ b.more) ++ tail)) xs → ArePageItems xs
+    → AreLeadThere b tail
+lead_there b tail xs runs m =
     let before : List Item = joined b.before in
     let own : List Item = own_items b in
     let more : List Item = own ++ joined tail in
-    let all : MarksEnd (before ++ (b.marks ++ more)) =
-    subst MarksEnd (joined_is goes_on (b.before ++ (((b.marks ++ b.first) ∷ b.more) ++ tail)) xs runs ∙ lines_joined b tail ∙ append_assoc before b.marks more) m in
+    let all : ArePageItems (before ++ (lead_of b ++ more)) =
+    subst ArePageItems (joined_is goes_on (b.before ++ (((lead_of b ++ b.first) ∷ b.more) ++ tail)) xs runs ∙ lines_joined b tail ∙ append_assoc before (lead_of b) more) m in
+    let ended : MarksEnd (lead_of b ++ more) = marks_behind before (lead_of b ++ more) all.0 in
+    let full : HaveBytes (lead_of b ++ more) = have_behind before (lead_of b ++ more) all.1 in
     record {
-      ended = λ marks some. led_end before b.marks more all marks
-          (omega (arith, some, length-append b.first (joined b.more), length-append own (joined tail)));
-      rest = marks_behind own (joined tail) (marks_behind b.marks more (marks_behind before (b.marks ++ more) all));
+      ended = ended;
+      full = have_front (lead_of b) more full;
+      rest = (marks_behind own (joined tail) (marks_behind (lead_of b) more ended), have_behind own (joined tail) (have_behind (lead_of b) more full));
     }
 
--- so what is before a block's lines and the marks that begin them is ended
-ended_front : (b : LinedBlock) (tail : List (List Item)) (xs : List Item) → AreRuns goes_on (b.before ++ (((b.marks ++ b.first) ∷ b.more) ++ tail)) xs → OwnBreaks xs
-    → MarksEnd xs → 1 ≤ length b.first → list_all is_mark b.marks ≡ true → AreEnded (sources (joined b.before ++ b.marks))
-ended_front b tail xs runs o w some all =
-    let breaks : AllBreaks b tail = all_breaks b tail xs runs o in
-    let marks : AreMarksThere b tail = all_marks b tail xs runs w in
-    let r : Round b tail = round b tail xs some runs breaks.text in
-    marks_ended (joined b.before) b.marks breaks.front r.front_whole (marks.ended all some)
+-- a block is led to by whole lines and what begins its line
+led_there : (n : ℕ) (b : LinedBlock) (tail : List (List Item)) (xs : List Item) → OwnBreaks xs → empty_end xs ≡ [] ∷ [] → AreLeadThere b tail
+    → IsSignFor b.block n b.before b.sign → IsApartFrom b.sign b.text → list_all is_mark b.marks ≡ true → 1 ≤ length b.first
+    → IsLedTo (sources (xs ++ lead_of b)) b.block b.text
+led_there n b tail xs breaks whole l sign apart marks some =
+    let more : List Item = own_items b ++ joined tail in
+    let size : 1 ≤ length more = omega (arith, some, length-append b.first (joined b.more), length-append (own_items b) (joined tail)) in
+    subst (λ (bs : List ℕ). IsLedTo bs b.block b.text) (sym (flat_map-append source xs (lead_of b)))
+    (lead_led b.block b.text n b.before b.sign b.marks more (sources xs) sign apart marks l.ended l.full size (ended_bytes xs breaks whole))
 
-pub page_ended : (page : List ℕ) (b : LinedBlock) (tail : List (List Item))
-    → AreRuns goes_on (b.before ++ (((b.marks ++ b.first) ∷ b.more) ++ tail)) (page_items page) → 1 ≤ length b.first → list_all is_mark b.marks ≡ true
-    → AreEnded (sources (joined b.before ++ b.marks))
-page_ended page b tail runs some all = ended_front b tail (page_items page) runs (page_breaks page) (page_marks page) some all
+-- so of a page that calls nothing
+pub page_led : (page : List ℕ) (n : ℕ) (b : LinedBlock) (tail : List (List Item))
+    → AreRuns goes_on (b.before ++ (((lead_of b ++ b.first) ∷ b.more) ++ tail)) (page_items page) → IsSignFor b.block n b.before b.sign → IsApartFrom b.sign b.text
+    → list_all is_mark b.marks ≡ true → 1 ≤ length b.first → IsLedTo (sources (joined b.before ++ lead_of b)) b.block b.text
+page_led page n b tail runs sign apart marks some =
+    let xs : List Item = page_items page in
+    let breaks : AllBreaks b tail = all_breaks b tail xs runs (page_breaks page) in
+    let r : Round b tail = round b tail xs some runs breaks.text in
+    led_there n b tail (joined b.before) breaks.front r.front_whole (lead_there b tail xs runs (page_items_are page)) sign apart marks some
 
 -- ---- all blocks
 
 further : (last : TextBlock) (bs : List Bool) (ls : List LinedBlock) (behind : List (List Item)) (xs es : List Item) → AreRuns goes_on (all_lines ls behind) xs
-    → OwnBreaks xs → MarksEnd xs → IsEnding es → ((m : List Item) (ms : List (List Item)) → all_lines ls behind ≡ m ∷ ms → es ≡ break ∷ []) → AreLinedAfter last bs ls behind
+    → OwnBreaks xs → ArePageItems xs → IsEnding es → ((m : List Item) (ms : List (List Item)) → all_lines ls behind ≡ m ∷ ms → es ≡ break ∷ []) → AreLinedAfter last bs ls behind
     → AreFurtherIn last bs (spots_by es ls) (end_by es ls behind) (es ++ joined (all_lines ls behind))
 further last bs [] behind xs es runs o w i f h =
     lines_end last (length bs) es behind i f (lines_of behind (subst (λ (ys : List Item). AreRuns goes_on behind ys) (joined_is goes_on behind xs runs) runs)) h
 further last bs (b ∷ ls) behind xs es runs o w i f h =
     let tail : List (List Item) = all_lines ls behind in
-    let lines = some_lines b.before (b.marks ++ b.first) (b.more ++ tail) in
+    let lines = some_lines b.before (lead_of b ++ b.first) (b.more ++ tail) in
     let e : es ≡ break ∷ [] = f lines.0 lines.1 lines.2 in
     let breaks : AllBreaks b tail = all_breaks b tail xs runs o in
-    let marks : AreMarksThere b tail = all_marks b tail xs runs w in
+    let lead : AreLeadThere b tail = lead_there b tail xs runs w in
     let r : Round b tail = round b tail xs h.1.some runs breaks.text in
-    let front : List Item = joined b.before ++ b.marks in
+    let front : List Item = joined b.before ++ lead_of b in
     let own : List Item = content (own_items b) in
     let rest : List Item = ending (own_items b) ++ joined tail in
-    let rows : List Row = written_rows (length bs) b.before in
-    let same : rows_of_part bs front ≡ rows = rows_by bs b.before b.marks h.1.are_marks r.front_are r.front_whole in
+    let rows : List Row = front_rows (length bs) b in
+    let same : rows_of_part bs front ≡ rows = rows_by bs b.block b.before b.sign b.marks h.1.are_marks h.1.sign r.front_are r.front_whole in
     let n : ℕ = length (open_after bs rows) in
-    let block = own_block b.block n b.text (b.first ∷ b.more) r.y r.ys r.some r.own_are h.1.own in
+    let block = own_block b.block (length bs) b.before b.sign n b.text (b.first ∷ b.more) r.y r.ys r.some r.own_are h.1.sign h.1.own in
     let P : List Item → Type 0 = λ (zs : List Item).
     AreFurtherIn last bs (spots_by zs (b ∷ ls)) (end_by zs (b ∷ ls) behind) (zs ++ joined (all_lines (b ∷ ls) behind)) in
     subst P (sym e) (
@@ -280,31 +235,31 @@ further last bs (b ∷ ls) behind xs es runs o w i f h =
         source = refl;
         block = block.0;
       },
-      inl (marks_ended (break ∷ joined b.before) b.marks ((λ t. refl), breaks.front) (past_end (joined b.before) r.front_whole) (marks.ended h.1.are_marks h.1.some)),
+      led_there (length bs) b tail (break ∷ joined b.before) ((λ t. refl), breaks.front) (past_end (joined b.before) r.front_whole) lead h.1.sign h.1.unclosed h.1.are_marks h.1.some,
       refl,
       (refl, subst (NextApart last b.block) (sym same) h.0),
-      leads_by b.block bs b.before b.marks h.1.are_marks r.front_are r.front_whole h.1.in_cells h.1.apart,
-      inl (subst (λ (rs : List Row). StayText b.block (length (open_after bs rs)) own) (sym same) block.1),
+      leads_by b.block bs b.before b.sign b.marks h.1.are_marks h.1.sign r.front_are r.front_whole h.1.in_cells h.1.apart,
+      stays_by b.block bs b.before b.sign b.marks own h.1.are_marks h.1.sign r.front_are r.front_whole block.1,
       subst (λ (rs : List Row). AreFurtherIn b.block (open_after bs rs) (spots_by (ending (own_items b)) ls) (end_by (ending (own_items b)) ls behind) rest) (sym same)
-          (further b.block (open_after bs rows) ls behind (joined tail) (ending (own_items b)) r.tail_runs breaks.rest marks.rest r.own_ending r.ends h.2),
+          (further b.block (open_after bs rows) ls behind (joined tail) (ending (own_items b)) r.tail_runs breaks.rest lead.rest r.own_ending r.ends h.2),
     )
 
 pub placed : (ls : List LinedBlock) (behind : List (List Item)) (xs : List Item) → page_items (spots_source (spots_by [] ls) (end_by [] ls behind)) ≡ xs
-    → full_lines xs ≡ all_lines ls behind → OwnBreaks xs → MarksEnd xs → AreLined ls behind → AreBlocksIn (spots_by [] ls) (end_by [] ls behind)
+    → full_lines xs ≡ all_lines ls behind → OwnBreaks xs → ArePageItems xs → AreLined ls behind → AreBlocksIn (spots_by [] ls) (end_by [] ls behind)
 placed [] behind xs e are o w h = absurd h
 placed (b ∷ ls) behind xs e are o w h =
     let tail : List (List Item) = all_lines ls behind in
-    let all : List (List Item) = b.before ++ (((b.marks ++ b.first) ∷ b.more) ++ tail) in
+    let all : List (List Item) = b.before ++ (((lead_of b ++ b.first) ∷ b.more) ++ tail) in
     let runs : AreRuns goes_on all xs = subst (λ (ks : List (List Item)). AreRuns goes_on ks xs) are (runs_are goes_on xs) in
     let breaks : AllBreaks b tail = all_breaks b tail xs runs o in
-    let marks : AreMarksThere b tail = all_marks b tail xs runs w in
+    let lead : AreLeadThere b tail = lead_there b tail xs runs w in
     let r : Round b tail = round b tail xs h.0.some runs breaks.text in
-    let front : List Item = joined b.before ++ b.marks in
+    let front : List Item = joined b.before ++ lead_of b in
     let own : List Item = content (own_items b) in
     let rest : List Item = ending (own_items b) ++ joined tail in
-    let rows : List Row = written_rows 0 b.before in
-    let same : rows_of_part [] front ≡ rows = rows_by [] b.before b.marks h.0.are_marks r.front_are r.front_whole in
-    let block = own_block b.block (length (open_after [] rows)) b.text (b.first ∷ b.more) r.y r.ys r.some r.own_are h.0.own in (
+    let rows : List Row = front_rows 0 b in
+    let same : rows_of_part [] front ≡ rows = rows_by [] b.block b.before b.sign b.marks h.0.are_marks h.0.sign r.front_are r.front_whole in
+    let block = own_block b.block 0 b.before b.sign (length (open_after [] rows)) b.text (b.first ∷ b.more) r.y r.ys r.some r.own_are h.0.sign h.0.own in (
       record {
         before = front;
         own = own;
@@ -313,28 +268,28 @@ placed (b ∷ ls) behind xs e are o w h =
         source = refl;
         block = block.0;
       },
-      inl (marks_ended (joined b.before) b.marks breaks.front r.front_whole (marks.ended h.0.are_marks h.0.some)),
-      leads_by b.block [] b.before b.marks h.0.are_marks r.front_are r.front_whole h.0.in_cells h.0.apart,
-      inl (subst (λ (rs : List Row). StayText b.block (length (open_after [] rs)) own) (sym same) block.1),
+      led_there 0 b tail (joined b.before) breaks.front r.front_whole lead h.0.sign h.0.unclosed h.0.are_marks h.0.some,
+      leads_by b.block [] b.before b.sign b.marks h.0.are_marks h.0.sign r.front_are r.front_whole h.0.in_cells h.0.apart,
+      stays_by b.block [] b.before b.sign b.marks own h.0.are_marks h.0.sign r.front_are r.front_whole block.1,
       subst (λ (rs : List Row). AreFurtherIn b.block (open_after [] rs) (spots_by (ending (own_items b)) ls) (end_by (ending (own_items b)) ls behind) rest) (sym same)
-          (further b.block (open_after [] rows) ls behind (joined tail) (ending (own_items b)) r.tail_runs breaks.rest marks.rest r.own_ending r.ends h.1),
+          (further b.block (open_after [] rows) ls behind (joined tail) (ending (own_items b)) r.tail_runs breaks.rest lead.rest r.own_ending r.ends h.1),
     )
 
 -- ---- they are the page
 
-pub own_source : (k : TextBlock) (n : ℕ) (q : List ℕ) (ts : List (List Item)) → OwnLined k n q ts → sources (content (joined ts)) ≡ source_of k q
-own_source a_paragraph n q ts h = h.2
-own_source (a_heading s) n q ts h = block_source (a_heading s) q (content (joined ts)) h
+pub own_source : (sign : List Item) (k : TextBlock) (n : ℕ) (q : List ℕ) (ts : List (List Item)) → OwnLined sign k n q ts → sources (content (joined ts)) ≡ source_of k q
+own_source sign a_paragraph n q ts h = h.2
+own_source sign (a_heading s) n q ts h = block_source (a_heading s) q (content (joined ts)) h
 
 joined_source : (b : LinedBlock) (tail : List (List Item)) (es : List Item) (bytes : List ℕ) → sources (content (own_items b)) ≡ source_of b.block b.text
     → bytes ≡ sources (ending (own_items b) ++ joined tail)
-    → sources (es ++ (joined b.before ++ b.marks)) ++ (source_of b.block b.text ++ bytes)
-    ≡ sources (es ++ joined (b.before ++ (((b.marks ++ b.first) ∷ b.more) ++ tail)))
+    → sources (es ++ (joined b.before ++ lead_of b)) ++ (source_of b.block b.text ++ bytes)
+    ≡ sources (es ++ joined (b.before ++ (((lead_of b ++ b.first) ∷ b.more) ++ tail)))
 joined_source b tail es bytes own rest =
-    let front : List Item = joined b.before ++ b.marks in
+    let front : List Item = joined b.before ++ lead_of b in
     let text : List Item = own_items b in
     let last : List Item = ending text ++ joined tail in
-    let all : joined (b.before ++ (((b.marks ++ b.first) ∷ b.more) ++ tail)) ≡ front ++ (content text ++ last) =
+    let all : joined (b.before ++ (((lead_of b ++ b.first) ∷ b.more) ++ tail)) ≡ front ++ (content text ++ last) =
     lines_joined b tail ∙ ap (λ (zs : List Item). front ++ (zs ++ joined tail)) (sym (content_ending text))
     ∙ ap (λ (zs : List Item). front ++ zs) (append_assoc (content text) (ending text) (joined tail)) in
     ap (λ (bs : List ℕ). sources (es ++ front) ++ (bs ++ bytes)) (sym own)
@@ -347,19 +302,19 @@ further_source : (last : TextBlock) (bs : List Bool) (ls : List LinedBlock) (beh
     → spots_source (spots_by es ls) (end_by es ls behind) ≡ sources (es ++ joined (all_lines ls behind))
 further_source last bs [] behind es h = refl
 further_source last bs (b ∷ ls) behind es h =
-    let now : List Bool = open_after bs (written_rows (length bs) b.before) in
+    let now : List Bool = open_after bs (front_rows (length bs) b) in
     let after : List Item = ending (own_items b) in
     joined_source b (all_lines ls behind) es (spots_source (spots_by after ls) (end_by after ls behind))
-    (own_source b.block (length now) b.text (b.first ∷ b.more) h.1.own) (further_source b.block now ls behind after h.2)
+    (own_source b.sign b.block (length now) b.text (b.first ∷ b.more) h.1.own) (further_source b.block now ls behind after h.2)
 
 first_source : (ls : List LinedBlock) (behind : List (List Item)) → AreLined ls behind
     → spots_source (spots_by [] ls) (end_by [] ls behind) ≡ sources (joined (all_lines ls behind))
 first_source [] behind h = absurd h
 first_source (b ∷ ls) behind h =
-    let now : List Bool = open_after [] (written_rows 0 b.before) in
+    let now : List Bool = open_after [] (front_rows 0 b) in
     let after : List Item = ending (own_items b) in
     joined_source b (all_lines ls behind) [] (spots_source (spots_by after ls) (end_by after ls behind))
-    (own_source b.block (length now) b.text (b.first ∷ b.more) h.0.own) (further_source b.block now ls behind after h.1)
+    (own_source b.sign b.block (length now) b.text (b.first ∷ b.more) h.0.own) (further_source b.block now ls behind after h.1)
 
 pub lined_whole : (page : List ℕ) (ls : List LinedBlock) (behind : List (List Item)) → full_lines (page_items page) ≡ all_lines ls behind → AreLined ls behind
     → spots_source (spots_by [] ls) (end_by [] ls behind) ≡ page
@@ -377,7 +332,7 @@ lined_in page ls behind h =
       calls_nothing = subst (λ (bs : List ℕ). CallsNothing (page_items bs)) (sym same) h.calls_nothing;
       ungrouped = subst HasNoGroups (sym same) h.ungrouped;
       closed = h.closed;
-      blocks = placed ls behind (page_items page) (ap page_items same) h.are (page_breaks page) (page_marks page) h.lined;
+      blocks = placed ls behind (page_items page) (ap page_items same) h.are (page_breaks page) (page_items_are page) h.lined;
       shut = h.shut;
     }
 

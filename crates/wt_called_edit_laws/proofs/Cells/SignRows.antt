@@ -1,16 +1,17 @@
 -- A paragraph on the line of a table's end, behind its `|}`: the rows of the line are those of the sign and the first of the paragraph, whatever kind this line
 -- would have by itself.
 use Rattle.std.proofs.Common.{arith, ◌≡◌, ℕ, suc, ◌+◌, ◌-◌, ◌==◌, Bool, true, false, List, [], ◌∷◌, ◌++◌, length, map, take, drop, nat_lt, refl, sym, ap, ◌∙◌, subst, append-nil, append_assoc, All, ◌≤◌, zero}
-use Rattle.std.specs.Prelude.{not, if◌then◌else◌}
+use Rattle.std.specs.Prelude.{◌||◌, not, if◌then◌else◌}
 use Rattle.std.specs.List.{prefix_len}
 use Rattle.std.proofs.lemmas.Bool.Decides.{nat_tests}
 use Rattle.std.proofs.lemmas.List.{map-append}
+use Rattle.wt_span.specs.Bytes.{is_blank}
 use Rattle.wt_span.specs.Items.{Item, char, whole, sign, is_mark}
 use Rattle.wt_span.specs.Runs.{put, AreRuns}
 use Rattle.wt_span.proofs.RunLaws.{runs_are}
 use Rattle.wt_lines.specs.declared.kind.LineKind.{LineKind}
 use Rattle.wt_lines.specs.declared.kind.LineKind.TheVariants as line
-use Rattle.wt_lines.specs.Kinds.{is_idle, past, is_idle_all, kind_of_signs, line_kind}
+use Rattle.wt_lines.specs.Kinds.{is_mark_sign, is_idle, past, is_idle_all, kind_of_signs, line_kind}
 use Rattle.wt_lines.specs.Lines.{is_break_item, goes_on, full_lines, content, empty_end, lines}
 use Rattle.wt_tables.specs.Extents.{behind}
 use Rattle.wt_page.specs.Lines.{kind_at, ending}
@@ -26,7 +27,7 @@ use Rattle.wt_text_edit_laws.proofs.Prose.ProseLines.{first_ended, rest_ended, c
 use Rattle.wt_text_edit_laws.proofs.Paragraphs.LineBlocks.{paragraph_rows, IsLineBlock, still_unled}
 use Rattle.wt_text_edit_laws.proofs.Paragraphs.Marks.{AreMarks, mark_sign, led, with_lead, row_marks}
 use Rattle.wt_called_edit_laws.specs.AnyBlocks.{past_break}
-use Rattle.wt_called_edit_laws.specs.TableEnds.{AreIdleItems, IsEndSign, IsTableEnd, AreLater}
+use Rattle.wt_called_edit_laws.specs.TableEnds.{is_idle_item, AreIdleItems, IsEndSign, IsTableEnd, AreLater}
 use Rattle.wt_called_edit_laws.proofs.Cells.CellRows.{AreAt, later_at, kinds_by, own_rows, ended_lines}
 
 abbrev AllGo : List Item → Type 0
@@ -47,9 +48,18 @@ content_first : (x : Item) (ys : List Item) → is_break_item x ≡ false → co
 content_first x [] e = ap (λ (t : Bool). if t then [] else x ∷ []) e
 content_first x (y ∷ ys) e = refl
 
+either_idle : (v w : Bool) → (v || false) ≡ true → (v || w) ≡ true
+either_idle true w e = refl
+either_idle false w e = absurd (cc)
+
+pub idle_sign : (x : Item) → is_idle_item x ≡ true → is_idle (sign x) ≡ true
+idle_sign (char o b) e = either_idle (is_blank b) (is_mark_sign b) e
+idle_sign (whole f o bs) e = ap is_idle (mark_sign (whole f o bs) e)
+
 idle_past : (xs : List Item) (ss : List ℕ) → AreIdleItems xs → past is_idle (map sign xs ++ ss) ≡ past is_idle ss
 idle_past [] ss h = refl
-idle_past (x ∷ xs) ss h = ap (λ (t : Bool). if t then past is_idle (map sign xs ++ ss) else sign x ∷ (map sign xs ++ ss)) h.0 ∙ idle_past xs ss h.2
+idle_past (x ∷ xs) ss h =
+    ap (λ (t : Bool). if t then past is_idle (map sign xs ++ ss) else sign x ∷ (map sign xs ++ ss)) (idle_sign x h.0) ∙ idle_past xs ss h.2
 
 ends_kind : (n : ℕ) (ss ts : List ℕ) → past is_idle ss ≡ 124 ∷ 125 ∷ ts → kind_of_signs (suc n) ss ≡ line.TableEnd
 unfolding kind_of_signs
@@ -79,7 +89,7 @@ idle_front : (xs : List Item) (ss : List ℕ) (s : ℕ) → AreIdleItems xs → 
 idle_front [] ss s h e = ap (λ (t : Bool). if t then 1 + prefix_len is_idle ss else 0) e
 idle_front (x ∷ xs) ss s h e =
     let z : 1 + length xs ≡ suc (length xs) = omega arith in
-    ap (λ (t : Bool). if t then 1 + prefix_len is_idle (map sign xs ++ s ∷ ss) else 0) h.0 ∙ ap (λ (k : ℕ). 1 + k) (idle_front xs ss s h.2 e) ∙ z
+    ap (λ (t : Bool). if t then 1 + prefix_len is_idle (map sign xs ++ s ∷ ss) else 0) (idle_sign x h.0) ∙ ap (λ (k : ℕ). 1 + k) (idle_front xs ss s h.2 e) ∙ z
 
 taken : (xs ys : List Item) → take (length xs) (xs ++ ys) ≡ xs
 taken [] [] = refl
@@ -91,7 +101,7 @@ dropped [] [] = refl
 dropped [] (y ∷ ys) = refl
 dropped (x ∷ xs) ys = dropped xs ys
 
-sign_idle : (l rest : List Item) (h : IsEndSign l) → idle_len (sign_line h rest) ≡ length h.lead
+pub sign_idle : (l rest : List Item) (h : IsEndSign l) → idle_len (sign_line h rest) ≡ length h.lead
 sign_idle l rest h =
     let e : is_idle (sign h.bar) ≡ false = ap is_idle h.is_bar in
     ap (prefix_len is_idle) (map-append sign h.lead (h.bar ∷ h.brace ∷ rest)) ∙ idle_front h.lead (map sign (h.brace ∷ rest)) (sign h.bar) h.idle e
@@ -171,8 +181,12 @@ line_on_sign n l zs h y ys ls e seen =
 
 marks_idle : (ms : List Item) → AreMarks ms → AreIdleItems ms
 marks_idle [] h = tt
-marks_idle (m ∷ ms) h = (ap is_idle (mark_sign m h.0), goes m h.0, marks_idle ms h.1)
+marks_idle (m ∷ ms) h = (idle_mark m h.0, goes m h.0, marks_idle ms h.1)
   where
+    idle_mark : (m : Item) → is_mark m ≡ true → is_idle_item m ≡ true
+    idle_mark (char o b) e = cc
+    idle_mark (whole f o bs) e = e
+
     goes : (m : Item) → is_mark m ≡ true → is_break_item m ≡ false
     goes (char o b) e = cc
     goes (whole f o bs) e = refl
@@ -181,7 +195,7 @@ idle_goes : (xs : List Item) → AreIdleItems xs → AllGo xs
 idle_goes [] h = tt
 idle_goes (x ∷ xs) h = (h.1, idle_goes xs h.2)
 
-unseen_behind : (ms : List Item) (y : Item) (ys : List Item) → AreIdleItems ms → is_unseen (y ∷ ys) ≡ false → is_unseen (ms ++ y ∷ ys) ≡ false
+pub unseen_behind : (ms : List Item) (y : Item) (ys : List Item) → AreIdleItems ms → is_unseen (y ∷ ys) ≡ false → is_unseen (ms ++ y ∷ ys) ≡ false
 unseen_behind ms y ys h e =
     let signs : map sign (content (ms ++ y ∷ ys)) ≡ map sign ms ++ map sign (content (y ∷ ys)) =
     ap (map sign) (content_behind ms y ys) ∙ map-append sign ms (content (y ∷ ys)) in
@@ -251,7 +265,7 @@ one_line : (x : Item) (xs : List Item) → AllGo (x ∷ xs) → full_lines (x �
 one_line x [] h = refl
 one_line x (y ∷ ys) h = ap (put goes_on x) (one_line y ys h.1) ∙ put_on x y ys [] (ap not h.0)
 
-sign_alone : (l : List Item) → IsEndSign l → full_lines l ≡ l ∷ []
+pub sign_alone : (l : List Item) → IsEndSign l → full_lines l ≡ l ∷ []
 sign_alone l h = by l (sign_goes l h) (ap length h.is)
   where
     some : (xs : List Item) → 1 ≤ length (xs ++ (h.bar ∷ h.brace ∷ []))
@@ -272,7 +286,7 @@ tables_join : (n : ℕ) (ls ms : List (List Item)) → tables_behind n (ls ++ ms
 tables_join n [] ms = refl
 tables_join n (l ∷ ls) ms = tables_join (behind n (kind_at n l)) ls ms
 
-end_kind : (n : ℕ) (l : List Item) → IsEndSign l → kind_at (suc n) l ≡ line.TableEnd
+pub end_kind : (n : ℕ) (l : List Item) → IsEndSign l → kind_at (suc n) l ≡ line.TableEnd
 end_kind n l h = ap (kind_at (suc n)) h.is ∙ sign_kind n l [] h
 
 end_written : (n : ℕ) (l : List Item) → IsEndSign l → written_rows (suc n) (l ∷ []) ≡ line_rows line.TableEnd l

@@ -55,9 +55,9 @@ abbrev told : List Told
 told =
     a_heading_on [] [] (page_chars (codes "== a ==\n"))
     ∷ a_heading_on [] [] (page_chars (codes "== ==\n"))
-    ∷ a_paragraph_of [] [] (char None 9 ∷ remark ∷ page_chars (codes "b\n")) []
-    ∷ a_paragraph_of (page_chars (codes "\n") ∷ []) (remark ∷ []) (page_chars (codes "d\n")) []
-    ∷ a_paragraph_of (page_chars (codes "{|\n") ∷ page_chars (codes "|\n") ∷ []) [] (page_chars (codes "e\n")) []
+    ∷ a_paragraph_of [] [] [] (char None 9 ∷ remark ∷ page_chars (codes "b\n")) []
+    ∷ a_paragraph_of (page_chars (codes "\n") ∷ []) [] (remark ∷ []) (page_chars (codes "d\n")) []
+    ∷ a_paragraph_of (page_chars (codes "{|\n") ∷ page_chars (codes "|\n") ∷ []) [] [] (page_chars (codes "e\n")) []
     ∷ []
 
 abbrev behind : List (List Item)
@@ -90,6 +90,8 @@ told_here : AreTold told behind
 unfolding kind_of_signs level opening inside closing
 told_here = (
   record {
+    sign = tt;
+    unclosed = tt;
     are_marks = refl;
     some = omega arith;
     in_cells = tt;
@@ -98,16 +100,16 @@ told_here = (
   },
   (
     tt,
-    record { are_marks = refl; some = omega arith; in_cells = tt; apart = tt; own = record { is_heading = refl; first = refl } },
+    record { sign = tt; unclosed = tt; are_marks = refl; some = omega arith; in_cells = tt; apart = tt; own = record { is_heading = refl; first = refl } },
     (
       tt,
-      record { are_marks = refl; some = omega arith; in_cells = tt; apart = tt; own = ((refl, tt), refl) },
+      record { sign = tt; unclosed = tt; are_marks = refl; some = omega arith; in_cells = tt; apart = tt; own = ((refl, tt), refl) },
       (
         refl,
-        record { are_marks = refl; some = omega arith; in_cells = tt; apart = refl; own = ((refl, tt), refl) },
+        record { sign = tt; unclosed = tt; are_marks = refl; some = omega arith; in_cells = tt; apart = refl; own = ((refl, tt), refl) },
         (
           refl,
-          record { are_marks = refl; some = omega arith; in_cells = (refl, tt); apart = refl; own = ((refl, tt), refl) },
+          record { sign = tt; unclosed = tt; are_marks = refl; some = omega arith; in_cells = (refl, tt); apart = refl; own = ((refl, tt), refl) },
           refl,
         ),
       ),

@@ -17,7 +17,7 @@ use Rattle.wt_text_edit_laws.proofs.Paragraphs.LineBlocks.{OwnBreaks, page_break
 use Rattle.wt_called_edit_laws.specs.AnyBlocks.{open_after}
 use Rattle.wt_called_edit_laws.specs.CalledPages.{IsCalledPage}
 use Rattle.wt_called_edit_laws.specs.LinedHeadings.{sides_of, text_of}
-use Rattle.wt_called_edit_laws.specs.PlacedLines.{LinedBlock, all_lines, spots_by, end_by, OwnLined, IsLinedAt, AreLinedAfter, AreLined, IsLinedPage}
+use Rattle.wt_called_edit_laws.specs.PlacedLines.{LinedBlock, all_lines, spots_by, end_by, OwnLined, IsLinedAt, AreLinedAfter, AreLined, IsLinedPage, lead_of}
 use Rattle.wt_called_edit_laws.specs.ToldLines.{Told, a_paragraph_of, a_heading_on, lined, OwnTold, rows_before, IsToldAt, AreToldAfter, AreTold, IsToldPage}
 use Rattle.wt_called_edit_laws.proofs.Cells.PlacedBlocks.{own_first, own_rest}
 use Rattle.wt_called_edit_laws.proofs.Cells.PlacedLines.{own_items, run_behind, lines_joined, lined_called}
@@ -46,9 +46,9 @@ abbrev pub IsClosed : LinedBlock → List (List Item) → Type 0
 IsClosed b tail = ending (own_items b) ++ joined tail ≡ [] → EndsClosed (source_of b.block b.text) []
 
 own_told : (page : List ℕ) (t : Told) (n : ℕ) (tail : List (List Item)) (xs : List Item) → 1 ≤ length (lined t).first
-    → AreRuns goes_on (((lined t).marks ++ (lined t).first) ∷ ((lined t).more ++ tail)) xs → AtEnd page xs → AllOwn xs → OwnBreaks xs → IsClosed (lined t) tail
-    → OwnTold t n → OwnLined (lined t).block n (lined t).text ((lined t).first ∷ (lined t).more)
-own_told page (a_paragraph_of before marks first more) n tail xs some runs at own breaks closed h = (h.0, h.1, refl)
+    → AreRuns goes_on ((lead_of (lined t) ++ (lined t).first) ∷ ((lined t).more ++ tail)) xs → AtEnd page xs → AllOwn xs → OwnBreaks xs → IsClosed (lined t) tail
+    → OwnTold t n → OwnLined (lined t).sign (lined t).block n (lined t).text ((lined t).first ∷ (lined t).more)
+own_told page (a_paragraph_of before sign marks first more) n tail xs some runs at own breaks closed h = (h.0, h.1, refl)
 own_told page (a_heading_on before marks l) n tail xs some runs at own breaks closed h =
     let whole : xs ≡ marks ++ (l ++ runs.0) = runs.1 ∙ append_assoc marks l runs.0 in
     let there : AtEnd page (l ++ runs.0) = at_behind page marks (l ++ runs.0) xs whole at in
@@ -78,15 +78,15 @@ there_behind page us vs xs e a = record {
 }
 
 record Behind (page : List ℕ) (b : LinedBlock) (tail : List (List Item)) : Type 0 where
-  own_runs : AreRuns goes_on (((b.marks ++ b.first) ∷ b.more) ++ tail) (joined (((b.marks ++ b.first) ∷ b.more) ++ tail))
-  own_there : AreThere page (joined (((b.marks ++ b.first) ∷ b.more) ++ tail))
+  own_runs : AreRuns goes_on (((lead_of b ++ b.first) ∷ b.more) ++ tail) (joined (((lead_of b ++ b.first) ∷ b.more) ++ tail))
+  own_there : AreThere page (joined (((lead_of b ++ b.first) ∷ b.more) ++ tail))
   tail_runs : AreRuns goes_on tail (joined tail)
   tail_there : AreThere page (joined tail)
 
-behind : (page : List ℕ) (b : LinedBlock) (tail : List (List Item)) (xs : List Item) → AreRuns goes_on (b.before ++ (((b.marks ++ b.first) ∷ b.more) ++ tail)) xs
+behind : (page : List ℕ) (b : LinedBlock) (tail : List (List Item)) (xs : List Item) → AreRuns goes_on (b.before ++ (((lead_of b ++ b.first) ∷ b.more) ++ tail)) xs
     → AreThere page xs → Behind page b tail
 behind page b tail xs runs there =
-    let ks : List (List Item) = (b.marks ++ b.first) ∷ b.more in
+    let ks : List (List Item) = (lead_of b ++ b.first) ∷ b.more in
     let rest : AreRuns goes_on (ks ++ tail) (joined (ks ++ tail)) = runs_behind goes_on b.before (ks ++ tail) xs runs in
     let mine : AreThere page (joined (ks ++ tail)) =
     there_behind page (joined b.before) (joined (ks ++ tail)) xs (joined_is goes_on (b.before ++ (ks ++ tail)) xs runs ∙ joined_both b.before (ks ++ tail)) there in
@@ -100,12 +100,14 @@ behind page b tail xs runs there =
 told_at : (page : List ℕ) (open_tables : List Bool) (t : Told) (tail : List (List Item)) → Behind page (lined t) tail → IsClosed (lined t) tail
     → IsToldAt open_tables t → IsLinedAt open_tables (lined t)
 told_at page open_tables t tail r closed h = record {
+  sign = h.sign;
+  unclosed = h.unclosed;
   are_marks = h.are_marks;
   some = h.some;
   in_cells = h.in_cells;
   apart = h.apart;
   own = own_told page t (length (open_after open_tables (rows_before open_tables t))) tail
-      (joined ((((lined t).marks ++ (lined t).first) ∷ (lined t).more) ++ tail)) h.some r.own_runs r.own_there.at r.own_there.own r.own_there.breaks closed h.own;
+      (joined (((lead_of (lined t) ++ (lined t).first) ∷ (lined t).more) ++ tail)) h.some r.own_runs r.own_there.at r.own_there.own r.own_there.breaks closed h.own;
 }
 
 -- a block has an item
@@ -114,10 +116,10 @@ item_in [] [] zs some e = omega (arith, some)
 item_in [] (y ∷ ys) zs some e = cc
 item_in (x ∷ xs) ys zs some e = cc
 
-pub told_item : (es : List Item) (b : LinedBlock) (tail : List (List Item)) → 1 ≤ length b.first → es ++ joined (b.before ++ (((b.marks ++ b.first) ∷ b.more) ++ tail)) ≡ [] → ⊥
+pub told_item : (es : List Item) (b : LinedBlock) (tail : List (List Item)) → 1 ≤ length b.first → es ++ joined (b.before ++ (((lead_of b ++ b.first) ∷ b.more) ++ tail)) ≡ [] → ⊥
 told_item es b tail some e =
-    let front : List Item = joined b.before ++ b.marks in
-    let all : es ++ joined (b.before ++ (((b.marks ++ b.first) ∷ b.more) ++ tail)) ≡ (es ++ front) ++ (b.first ++ (joined b.more ++ joined tail)) =
+    let front : List Item = joined b.before ++ lead_of b in
+    let all : es ++ joined (b.before ++ (((lead_of b ++ b.first) ∷ b.more) ++ tail)) ≡ (es ++ front) ++ (b.first ++ (joined b.more ++ joined tail)) =
     ap (λ (ys : List Item). es ++ ys) (lines_joined b tail ∙ ap (λ (ys : List Item). front ++ ys) (append_assoc b.first (joined b.more) (joined tail)))
     ∙ sym (append_assoc es front (b.first ++ (joined b.more ++ joined tail))) in
     item_in (es ++ front) b.first (joined b.more ++ joined tail) some (sym all ∙ e)
@@ -206,7 +208,7 @@ heading_told page before marks l behind_it n closed some are h =
     let runs : AreRuns goes_on (before ++ (marks ++ l) ∷ behind_it) xs = subst (λ (ks : List (List Item)). AreRuns goes_on ks xs) are (runs_are goes_on xs) in
     let r : Behind page b behind_it = behind page b behind_it xs runs (page_there page) in
     let mine : AllOwn l = own_front l (joined behind_it) (own_back marks (l ++ joined behind_it) (subst AllOwn (append_assoc marks l (joined behind_it)) r.own_there.own)) in
-    let there : OwnLined b.block n b.text (l ∷ []) =
+    let there : OwnLined [] b.block n b.text (l ∷ []) =
     own_told page (a_heading_on before marks l) n behind_it (joined ((marks ++ l) ∷ behind_it)) some r.own_runs r.own_there.at r.own_there.own
     r.own_there.breaks
     (λ e. subst (λ (bs : List ℕ). EndsClosed bs []) (sym (told_source n l h mine))
