@@ -1,5 +1,5 @@
 -- A text edit of paragraphs and headings, with calls in them or without, is done, and is local.
-use Rattle.std.proofs.Common.{arith, ◌≡◌, ℕ, ◌≤◌, Option, Some, None, List, [], ◌∷◌, length, sym, ap, subst, inl, inr}
+use Rattle.std.proofs.Common.{arith, ◌≡◌, ◌⊎◌, ℕ, ◌≤◌, Option, Some, None, List, [], ◌∷◌, length, sym, ap, subst, inl, inr}
 use Rattle.std.specs.List.{AllByRecursion}
 use Rattle.std.specs.Str.{IsUtf8}
 use Rattle.wt_span.specs.declared.limits.TheConstants.{HTML_BYTES, PAGE_BYTES}
@@ -36,12 +36,14 @@ use Rattle.wt_inside_laws.specs.AsSent.{edits_of, paths_of, node_at, AreSomeOf}
 use Rattle.wt_inside_laws.specs.BesideEdits.{IsBesideBlock, IsBesideEdit}
 use Rattle.wt_inside_laws.specs.EditsWithCalls.{AreInTheirPieces, AreTextsAndCalls, IsCallingOn, MayHoldCalls, IsMarkedEdit, IsMarkedDifference}
 use Rattle.wt_inside_laws.specs.LocalTextEdits.{IsLocalTextEdit}
+use Rattle.wt_inside_laws.specs.NodeBlocks.{IsNodeBlock}
 use Rattle.wt_inside_laws.specs.TextEdits.{IsRetyped, IsTextEdit}
 use Rattle.wt_inside_laws.specs.ToldEdits.{IsOrdinaryOn, IsOrdinaryEdit, IsOrdinaryDifference}
 use Rattle.wt_inside_laws.specs.TypedApart.{IsTypedApart}
 use Rattle.wt_inside_laws.specs.TypedBeside.{IsTypedIn}
 use Rattle.wt_inside_laws.proofs.BesideEdits.{calling_edit_done}
 use Rattle.wt_inside_laws.proofs.HtmlEdits.{edit_is}
+use Rattle.wt_inside_laws.proofs.NodeBlocks.{nodes_take_texts}
 use Rattle.wt_inside_laws.proofs.LocalTextEdits.{nothing_local, ordinary_local, calling_local}
 use Rattle.wt_inside_laws.proofs.NothingMarked.{nothing_done, nothing_spliced}
 use Rattle.wt_inside_laws.proofs.OrdinaryEdits.{nodes_at, olds, one_same, block_kind, OrdinarySent, read_as_sent, difference_as_sent, by_marked, ordinary_done, done_without_marks, difference_written}
@@ -81,9 +83,14 @@ all_held pages page utf8 unrefused (q ∷ qs) (m ∷ ms) w e r h =
       all_held pages page utf8 unrefused qs ms w.1 (rest_same (node_at q t) (Some m.old) (nodes_at t qs) (olds ms) e) r.1 h.1,
     )
 
-all_beside : (pages : Pages) (page : List ℕ) (ms : List Pair) → AllByRecursion (IsHeld pages page) ms → AllByRecursion (IsBesideBlock pages page) ms
-all_beside pages page [] h = tt
-all_beside pages page (m ∷ ms) h = let first : IsHeld pages page m = h.0 in (first.calling.beside, all_beside pages page ms h.1)
+all_beside : (pages : Pages) (page : List ℕ) (ms : List Pair) → AllByRecursion (IsRetyped same_node (expanded_page pages page) page) ms
+    → AllByRecursion (IsHeld pages page) ms → AllByRecursion (IsBesideBlock pages page) ms
+all_beside pages page [] r h = tt
+all_beside pages page (m ∷ ms) r h = let first : IsHeld pages page m = h.0 in (by first.calling.beside, all_beside pages page ms r.1 h.1)
+  where
+    by : IsNodeBlock pages m.old ⊎ IsBesideBlock pages page m → IsBesideBlock pages page m
+    by (inl n) = nodes_take_texts pages page m r.0 n
+    by (inr b) = b
 
 -- and may be edited there
 each_editable : (pages : Pages) (page : List ℕ) (qs : List (List ℕ)) (ms : List Pair) → AllByRecursion (Reaches (called_tree pages page)) qs
@@ -191,7 +198,7 @@ calls_told pages page new h some =
         edit = h.edit;
         read = e.read;
         blocks = e.blocks;
-        beside = all_beside pages page ms all;
+        beside = all_beside pages page ms h.edit.blocks all;
         among = among_paths there.taken.paths ps there.there;
       };
     }

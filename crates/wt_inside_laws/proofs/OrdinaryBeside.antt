@@ -1,5 +1,5 @@
 -- A marked block that is ordinary calls nothing, whatever source it is told by: so it may be marked together with blocks that hold calls.
-use Rattle.std.proofs.Common.{◌≡◌, ℕ, Some, None, List, map, sym, ap, ◌∙◌, subst, inl}
+use Rattle.std.proofs.Common.{◌≡◌, ℕ, Some, None, List, map, sym, ap, ◌∙◌, subst, inl, inr}
 use Rattle.std.specs.Str.{IsUtf8}
 use Rattle.wt_span.specs.Items.{Item, sources}
 use Rattle.wt_tree.specs.Source.{flat}
@@ -132,5 +132,5 @@ ordinary_calling pages page m at o =
         source = told.source;
         content = inl (at.content, at.calm);
       };
-      beside = ordinary_beside pages page m at o;
+      beside = inr (ordinary_beside pages page m at o);
     }

@@ -184,7 +184,7 @@ may_hold = record {
       source = block_source;
       content = calls_editable a_word a_paragraph source text_and_calls;
     };
-    beside = takes;
+    beside = inr takes;
   });
 }
 

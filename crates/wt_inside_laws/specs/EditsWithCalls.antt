@@ -16,6 +16,7 @@ use Rattle.wt_called_edit_laws.specs.CallingTold.{IsExceptedCalling}
 use Rattle.wt_called_edit_laws.specs.EditableNodes.{IsEditableNode}
 use Rattle.wt_called_edit_laws.specs.PiecedParagraphs.{IsInPieces, IsHeadingInPieces, IsTextAndCalls, IsHeadingOfCalls}
 use Rattle.wt_inside_laws.specs.BesideEdits.{IsBesideBlock}
+use Rattle.wt_inside_laws.specs.NodeBlocks.{IsNodeBlock}
 use Rattle.wt_inside_laws.specs.TextEdits.{IsTextEdit}
 use Rattle.wt_inside_laws.specs.ToldEdits.{IsOrdinaryOn}
 
@@ -29,10 +30,11 @@ abbrev pub AreTextsAndCalls : Pages → TextBlock → List ℕ → Type 0
 AreTextsAndCalls pages a_paragraph q = IsTextAndCalls pages q
 AreTextsAndCalls pages (a_heading s) q = IsHeadingOfCalls pages s q
 
--- The content of a marked block may be edited with its calls, and it calls nothing and is ordinary, or texts may be typed beside its calls.
+-- The content of a marked block may be edited with its calls; and texts may be typed beside these, by its nodes in the page's tree, or whatever its source is; or it calls
+-- nothing and is ordinary.
 pub record IsCallingOn (pages : Pages) (page : List ℕ) (p : Pair) : Type 0 where
   pub editable : IsEditableNode pages p.old
-  pub beside : IsBesideBlock pages page p
+  pub beside : IsNodeBlock pages p.old ⊎ IsBesideBlock pages page p
 
 -- It is none of those that lines or calls except, and is ordinary on this page, or such a one.
 pub record MayHoldCalls (pages : Pages) (page : List ℕ) (p : Pair) : Type 0 where
