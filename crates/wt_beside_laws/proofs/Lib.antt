@@ -18,6 +18,7 @@ pub mod NodesStand
 pub mod OpenTags
 pub mod LinesClosed
 pub mod NodesClosed
+pub mod ReferenceItems
 pub mod TagEnds
 pub mod LinesOpen
 pub mod Each

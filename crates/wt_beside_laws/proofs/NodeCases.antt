@@ -114,6 +114,9 @@ closing_there = refl
 told_by_bytes : ends_in_tag (byte_glyphs (codes "[http://x <small  a]")) ≡ false
 told_by_bytes = refl
 
+told_with_a_reference : ends_in_tag (byte_glyphs (codes "[http://x <small ") ++ (glyph.Entity 38 ∷ byte_glyphs (codes " a]"))) ≡ false
+told_with_a_reference = refl
+
 no_tag_there : ends_in_tag (byte_glyphs (codes "[[a|b < c]]")) ≡ false
 no_tag_there = refl
 

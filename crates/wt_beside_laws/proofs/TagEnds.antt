@@ -1,4 +1,4 @@
--- A tag that may go on behind a node that isn't tangled is one that isn't ended there, with something hidden in it.
+-- A tag that may go on behind a node that isn't tangled is one that isn't ended there, with a mark in it.
 use Rattle.std.proofs.Common.{arith, ◌≡◌, ℕ, ◌==◌, Bool, true, false, None, List, [], ◌∷◌, ◌++◌, map, refl, sym, ap, ap₂, ◌∙◌, subst}
 use Rattle.std.specs.Prelude.{◌&&◌, ◌||◌, not}
 use Rattle.std.specs.Char.{is_ascii_alphabetic, is_ascii_alphanumeric}
@@ -13,12 +13,12 @@ use Rattle.wt_guards.specs.Content.{ContentSign, letter, thing}
 use Rattle.wt_tiles.specs.declared.glyph.Glyph.{Glyph}
 use Rattle.wt_tiles.specs.declared.glyph.Glyph.TheVariants as glyph
 use Rattle.wt_tiles.specs.declared.glyph.GlyphClass.TheVariants as class
-use Rattle.wt_tiles.specs.Glyphs.{glyph_of_form, glyph_of, is_in, in_class}
+use Rattle.wt_tiles.specs.Glyphs.{glyph_of_form, glyph_of, in_class}
 use Rattle.wt_isolation.specs.OpenTags.{is_stop}
 use Rattle.wt_beside_laws.specs.Cuts.{own_glyphs}
 use Rattle.wt_beside_laws.specs.NodeItems.{node_items}
 use Rattle.wt_beside_laws.specs.Nodes.{AreNodes}
-use Rattle.wt_beside_laws.specs.OpenTags.{has_other, has_stop, has_hidden, is_open_tag, ends_in_tag}
+use Rattle.wt_beside_laws.specs.OpenTags.{has_other, has_stop, has_mark, is_open_tag, ends_in_tag}
 use Rattle.wt_beside_laws.specs.PageBlocks.{AreShut}
 use Rattle.wt_beside_laws.proofs.LinesClosed.{AllEndSo}
 use Rattle.wt_beside_laws.proofs.LinesOpen.{neither}
@@ -26,6 +26,7 @@ use Rattle.wt_beside_laws.proofs.NodeItems.{node_sources}
 use Rattle.wt_beside_laws.proofs.NodesClosed.{has_closer, EachCloses, node_closes}
 use Rattle.wt_beside_laws.proofs.Own.Crossing.{AfterTag, TagsShut, tags_shut}
 use Rattle.wt_beside_laws.proofs.PairTiles.{is_closing_glyph, may_go_on, tag_goes_on}
+use Rattle.wt_beside_laws.proofs.ReferenceItems.{AllBare, node_bare}
 
 -- ---- a tag of characters alone
 
@@ -33,24 +34,25 @@ unpassed : (v : Bool) → not (not v) ≡ false → v ≡ false
 unpassed true e = cc
 unpassed false e = refl
 
-hidden_form : (f : ItemForm) → is_in (λ (b : ℕ). true) (glyph_of_form f) ≡ false
-hidden_form form.Chars = refl
-hidden_form (form.Entity c) = refl
-hidden_form form.Nowiki = refl
-hidden_form form.Extension = refl
-hidden_form form.Function = refl
-hidden_form form.Comment = refl
-hidden_form form.Include = refl
-hidden_form form.Hidden = refl
-hidden_form form.EmptyCall = refl
+any_both : (xs ys : List ℕ) → list_any is_stop xs ≡ false → list_any is_stop ys ≡ false → list_any is_stop (xs ++ ys) ≡ false
+any_both [] ys h k = k
+any_both (x ∷ xs) ys h k =
+    let z = neither (is_stop x) (list_any is_stop xs) h in ap₂ (λ (u v : Bool). u || v) z.0 (any_both xs ys z.1 k)
 
-chars_bare : (ys : List Item) → has_hidden (map glyph_of ys) ≡ false → has_stop (map glyph_of ys) ≡ false → list_any is_stop (sources ys) ≡ false
-chars_bare [] h e = refl
-chars_bare (char o c ∷ ys) h e =
+chars_bare : (ys : List Item) → AllBare ys → has_mark (map glyph_of ys) ≡ false → has_stop (map glyph_of ys) ≡ false → list_any is_stop (sources ys) ≡ false
+chars_bare [] a h e = refl
+chars_bare (char o c ∷ ys) a h e =
     let z = neither (not (is_tag_byte c)) (has_stop (map glyph_of ys)) e in
-    ap₂ (λ (u v : Bool). u || v) (unpassed (is_stop c) z.0) (chars_bare ys h z.1)
-chars_bare (whole f o bs ∷ ys) h e =
-    let no : true ≡ false = sym (ap (λ (v : Bool). not v || has_hidden (map glyph_of ys)) (hidden_form f)) ∙ h in cc
+    ap₂ (λ (u v : Bool). u || v) (unpassed (is_stop c) z.0) (chars_bare ys a.1 h z.1)
+chars_bare (whole (form.Entity c) o bs ∷ ys) a h e = any_both bs (sources ys) a.0 (chars_bare ys a.1 h e)
+chars_bare (whole form.Chars o bs ∷ ys) a h e = cc
+chars_bare (whole form.Nowiki o bs ∷ ys) a h e = cc
+chars_bare (whole form.Extension o bs ∷ ys) a h e = cc
+chars_bare (whole form.Function o bs ∷ ys) a h e = cc
+chars_bare (whole form.Comment o bs ∷ ys) a h e = cc
+chars_bare (whole form.Include o bs ∷ ys) a h e = cc
+chars_bare (whole form.Hidden o bs ∷ ys) a h e = cc
+chars_bare (whole form.EmptyCall o bs ∷ ys) a h e = cc
 
 -- ---- behind a `<`
 
@@ -76,18 +78,18 @@ closer_other (g ∷ gs) e = by (in_class (class.Only 93) g || in_class (class.On
     by true i f go = ap (λ (v : Bool). not v || has_other is_closing_glyph gs) (closer_apart g i)
     by false i f go = or_right (not (is_closing_glyph g)) (has_other is_closing_glyph gs) (go f)
 
-letter_ends : (b : ℕ) (ys : List Item) → AfterTag (b ∷ sources ys) → is_open_tag (map glyph_of (char None b ∷ ys)) ≡ false
+letter_ends : (b : ℕ) (ys : List Item) → AllBare ys → AfterTag (b ∷ sources ys) → is_open_tag (map glyph_of (char None b ∷ ys)) ≡ false
     → (is_ascii_alphabetic b && not (has_stop (glyph.Byte b ∷ map glyph_of ys))) ≡ false
-letter_ends b ys s e =
-    by (is_ascii_alphabetic b) (has_stop (glyph.Byte b ∷ map glyph_of ys)) (has_hidden (map glyph_of ys)) refl refl refl e
+letter_ends b ys a s e =
+    by (is_ascii_alphabetic b) (has_stop (glyph.Byte b ∷ map glyph_of ys)) (has_mark (map glyph_of ys)) refl refl refl e
   where
-    by : (u v w : Bool) → is_ascii_alphabetic b ≡ u → has_stop (glyph.Byte b ∷ map glyph_of ys) ≡ v → has_hidden (map glyph_of ys) ≡ w
+    by : (u v w : Bool) → is_ascii_alphabetic b ≡ u → has_stop (glyph.Byte b ∷ map glyph_of ys) ≡ v → has_mark (map glyph_of ys) ≡ w
         → (u && (not v && w)) ≡ false → (u && not v) ≡ false
     by false v w i j k f = refl
     by true true w i j k f = refl
     by true false true i j k f = cc
     by true false false i j k f =
-        let no : true ≡ false = sym (s i) ∙ chars_bare (char None b ∷ ys) k j in cc
+        let no : true ≡ false = sym (s i) ∙ chars_bare (char None b ∷ ys) (tt, a) k j in cc
 
 slash_ends : (b : ℕ) (gs : List Glyph) → has_closer (glyph.Byte b ∷ gs) ≡ true → ((b == 47) && not (has_other is_closing_glyph gs)) ≡ false
 slash_ends b gs c = by (b == 47) refl
@@ -121,38 +123,38 @@ no_byte c form.Include = refl
 no_byte c form.Hidden = refl
 no_byte c form.EmptyCall = refl
 
-behind : (xs : List Item) → has_closer (map glyph_of xs) ≡ true → AfterTag (sources xs) → is_open_tag (map glyph_of xs) ≡ false → may_go_on (map glyph_of xs) ≡ false
-behind [] c s e = cc
-behind (char o b ∷ ys) c s e = ap₂ (λ (u v : Bool). u || v) (letter_ends b ys s e) (slash_ends b (map glyph_of ys) c)
-behind (whole f o bs ∷ ys) c s e =
+behind : (xs : List Item) → AllBare xs → has_closer (map glyph_of xs) ≡ true → AfterTag (sources xs) → is_open_tag (map glyph_of xs) ≡ false → may_go_on (map glyph_of xs) ≡ false
+behind [] a c s e = cc
+behind (char o b ∷ ys) a c s e = ap₂ (λ (u v : Bool). u || v) (letter_ends b ys a.1 s e) (slash_ends b (map glyph_of ys) c)
+behind (whole f o bs ∷ ys) a c s e =
     let gs : List Glyph = map glyph_of ys in
     ap₂ (λ (u v : Bool). (u && not (has_stop (glyph_of_form f ∷ gs))) || (v && not (has_other is_closing_glyph gs))) (no_letter f) (no_byte 47 f)
 
 -- ---- a node
 
-here : (x : Item) (xs : List Item) → (in_class (class.Only 60) (glyph_of x) ≡ true → has_closer (map glyph_of xs) ≡ true) → TagsShut (source x ++ sources xs)
+here : (x : Item) (xs : List Item) → AllBare xs → (in_class (class.Only 60) (glyph_of x) ≡ true → has_closer (map glyph_of xs) ≡ true) → TagsShut (source x ++ sources xs)
     → (in_class (class.Only 60) (glyph_of x) && is_open_tag (map glyph_of xs)) ≡ false → (in_class (class.Only 60) (glyph_of x) && may_go_on (map glyph_of xs)) ≡ false
-here (char o b) xs c s e = by (b == 60) refl
+here (char o b) xs a c s e = by (b == 60) refl
   where
     by : (v : Bool) → (b == 60) ≡ v → (v && may_go_on (map glyph_of xs)) ≡ false
     by false i = refl
-    by true i = behind xs (c i) (s.0 i) (ap (λ (v : Bool). v && is_open_tag (map glyph_of xs)) (sym i) ∙ e)
-here (whole f o bs) xs c s e = ap (λ (v : Bool). v && may_go_on (map glyph_of xs)) (no_byte 60 f)
+    by true i = behind xs a (c i) (s.0 i) (ap (λ (v : Bool). v && is_open_tag (map glyph_of xs)) (sym i) ∙ e)
+here (whole f o bs) xs a c s e = ap (λ (v : Bool). v && may_go_on (map glyph_of xs)) (no_byte 60 f)
 
 shut_past : (bs cs : List ℕ) → TagsShut (bs ++ cs) → TagsShut cs
 shut_past [] cs h = h
 shut_past (b ∷ bs) cs h = shut_past bs cs h.1
 
-none_goes : (xs : List Item) → EachCloses (map glyph_of xs) → TagsShut (sources xs) → ends_in_tag (map glyph_of xs) ≡ false → tag_goes_on (map glyph_of xs) ≡ false
-none_goes [] c s e = refl
-none_goes (x ∷ xs) c s e =
+none_goes : (xs : List Item) → AllBare xs → EachCloses (map glyph_of xs) → TagsShut (sources xs) → ends_in_tag (map glyph_of xs) ≡ false → tag_goes_on (map glyph_of xs) ≡ false
+none_goes [] a c s e = refl
+none_goes (x ∷ xs) a c s e =
     let z = neither (in_class (class.Only 60) (glyph_of x) && is_open_tag (map glyph_of xs)) (ends_in_tag (map glyph_of xs)) e in
-    ap₂ (λ (u v : Bool). u || v) (here x xs c.0 s z.0) (none_goes xs c.1 (shut_past (source x) (sources xs) s) z.1)
+    ap₂ (λ (u v : Bool). u || v) (here x xs a.1 c.0 s z.0) (none_goes xs a.1 c.1 (shut_past (source x) (sources xs) s) z.1)
 
 pub all_end_so : (signs : List ContentSign) → AreNodes signs → AreShut signs → AllEndSo signs
 all_end_so [] n h = tt
 all_end_so (letter c ∷ after) n h = all_end_so after n h
 all_end_so (thing t ∷ after) n h = (
-  none_goes (node_items t.source) (node_closes t.role (own_glyphs t) n.0) (subst TagsShut (sym (node_sources t.source)) (tags_shut t.source h.0)),
+  none_goes (node_items t.source) (node_bare t.source) (node_closes t.role (own_glyphs t) n.0) (subst TagsShut (sym (node_sources t.source)) (tags_shut t.source h.0)),
   all_end_so after n.1 h.1,
 )

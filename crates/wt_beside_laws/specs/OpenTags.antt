@@ -3,8 +3,9 @@ use Rattle.std.specs.Prelude.{◌≡◌, ◌⊎◌, ◌==◌, ◌&&◌, ◌||◌
 use Rattle.wt_span.specs.Characters as byte
 use Rattle.wt_guards.specs.Content.{ContentSign, Thing, letter, thing}
 use Rattle.wt_tiles.specs.declared.glyph.Glyph.{Glyph}
+use Rattle.wt_tiles.specs.declared.glyph.Glyph.TheVariants as glyph
 use Rattle.wt_tiles.specs.declared.glyph.GlyphClass.TheVariants as class
-use Rattle.wt_tiles.specs.Glyphs.{is_in, in_class}
+use Rattle.wt_tiles.specs.Glyphs.{in_class}
 use Rattle.wt_beside_laws.specs.Cuts.{own_glyphs}
 use Rattle.wt_beside_laws.specs.Nodes.{OpensNoPair}
 
@@ -19,14 +20,18 @@ has_other test (g ∷ gs) = not (test g) || has_other test gs
 abbrev pub has_stop : List Glyph → Bool
 has_stop gs = has_other (in_class class.Tag) gs
 
--- some item is no character: of those in a tag a mark (a comment, an include tag, a hidden part) or a reference
-abbrev pub has_hidden : List Glyph → Bool
-has_hidden gs = has_other (is_in (λ b. true)) gs
+-- a comment, an include tag or a hidden part is among them
+abbrev pub has_mark : List Glyph → Bool
+has_mark [] = false
+has_mark (glyph.Byte b ∷ gs) = has_mark gs
+has_mark (glyph.Entity c ∷ gs) = has_mark gs
+has_mark (glyph.Atom ∷ gs) = has_mark gs
+has_mark (glyph.Mark ∷ gs) = true
 
--- Behind a `<`: a tag's name begins, and nothing ends the tag. Something is hidden in it: with characters alone its bytes tell it, and its block is tangled.
+-- Behind a `<`: a tag's name begins, and nothing ends the tag, in which a mark is. Without one its bytes tell it, and its block is tangled.
 abbrev pub is_open_tag : List Glyph → Bool
 is_open_tag [] = false
-is_open_tag (g ∷ gs) = in_class class.Letter g && (not (has_stop (g ∷ gs)) && has_hidden gs)
+is_open_tag (g ∷ gs) = in_class class.Letter g && (not (has_stop (g ∷ gs)) && has_mark gs)
 
 abbrev pub ends_in_tag : List Glyph → Bool
 ends_in_tag [] = false

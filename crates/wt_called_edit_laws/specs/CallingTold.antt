@@ -1,25 +1,26 @@
 -- Each paragraph and heading of a page's tree, with calls in it or without, by the lines of the expanded page: by these it may be edited, at its path.
-use Rattle.std.specs.Prelude.{◌≡◌, ℕ, ◌+◌, true, false, None, List, [], ◌∷◌, ◌++◌}
+use Rattle.std.specs.Prelude.{◌≡◌, ◌⊎◌, ℕ, ◌+◌, true, false, None, List, [], ◌∷◌, ◌++◌}
 use Rattle.std.specs.List.{AllByRecursion}
 use Rattle.wt_span.specs.Items.{Item, is_mark, call_of}
 use Rattle.wt_span.specs.Origins.{Expanded}
 use Rattle.wt_tree.specs.Tree.{Tree, label}
-use Rattle.wt_annotated.specs.Seams.{last_of}
+use Rattle.wt_annotated.specs.Seams.{last_of, text_from}
 use Rattle.wt_expand.specs.PageCalls.{expanded_page}
 use Rattle.wt_expand.specs.Work.{Pages}
 use Rattle.wt_lines.specs.declared.kind.LineKind.TheVariants as line
-use Rattle.wt_lines.specs.Lines.{full_lines, is_break_item}
+use Rattle.wt_lines.specs.Lines.{content, full_lines, is_break_item}
 use Rattle.wt_page.specs.Lines.{kind_at}
 use Rattle.wt_page.specs.Rows.{is_unseen}
 use Rattle.wt_tables.specs.Parts.{joined}
 use Rattle.wt_typed_blocks.specs.Sent.{kind_of}
 use Rattle.wt_text_edit_laws.specs.ParagraphBetween.{tables_behind}
 use Rattle.wt_text_edit_laws.specs.ParagraphParts.{break}
+use Rattle.wt_text_edit_laws.specs.SignParts.{IsLedTo}
 use Rattle.wt_text_edit_laws.specs.TextBlocks.{TextBlock, block_of}
 use Rattle.wt_called_edit_laws.specs.AllTold.{IsExceptedAt, IsOneOf}
 use Rattle.wt_called_edit_laws.specs.CallingContents.{TakesContentsIn}
 use Rattle.wt_called_edit_laws.specs.LinedAmong.{spots_of_lines, end_of_lines, AreOfPage}
-use Rattle.wt_called_edit_laws.specs.LinedCalling.{AreCallingLined, IsLinedCalling}
+use Rattle.wt_called_edit_laws.specs.LinedCalling.{BeginsAlone, AreCallingLined, IsLinedCalling}
 use Rattle.wt_called_edit_laws.specs.PlacedLines.{LinedBlock, all_lines}
 use Rattle.wt_called_edit_laws.specs.RowBlocks.{StandsIn, opened_len, end_sign, past_end, begins_past}
 use Rattle.wt_called_edit_laws.specs.ToldLines.{Told, lined, AreTold}
@@ -57,10 +58,19 @@ pub record IsExceptedByLines (pages : Pages) (page : List ℕ) (t : Tree) : Type
 
 -- ---- what calls except
 
--- Behind these items neither the line break before a block's lines, nor the marks that begin them, nor a line break in them comes from a call.
-pub record IsBesideOwn (front : List Item) (t : Told) : Type 0 where
+-- behind these items neither the line break before a block's lines, nor the marks that begin them come from a call
+pub record IsOwnBegun (front : List Item) (t : Told) : Type 0 where
   pub ends : last_of None front ≡ None
   pub marks : AreOfPage (lined t).marks
+
+-- Or its first item comes from none, and behind these the page is ended for it, as behind a line break, or the end of a call.
+pub record IsLedBegun (e : Expanded) (front : List Item) (t : Told) : Type 0 where
+  pub first : BeginsAlone (content (joined ((lined t).first ∷ (lined t).more)))
+  pub led : IsLedTo (text_from e.outer None (front ++ (lined t).marks)) (lined t).block (text_from e.outer None (content (joined ((lined t).first ∷ (lined t).more))))
+
+-- so it begins, and no line break in it comes from a call
+pub record IsBesideOwn (e : Expanded) (front : List Item) (t : Told) : Type 0 where
+  pub begun : IsOwnBegun front t ⊎ IsLedBegun e front t
   pub breaks : AllByRecursion (λ x. is_break_item x ≡ true → x ≡ break) (joined ((lined t).first ∷ (lined t).more))
 
 -- it is no line break and no mark that a call gives
@@ -78,7 +88,7 @@ pub data IsExceptedSigned (ls : List (List Item)) (at : ℕ) : Type 0 where
 pub data IsExceptedWithCalls (e : Expanded) (at : ℕ) : Type 0 where
   on_a_sign : IsExceptedSigned (full_lines e.items) at → IsExceptedWithCalls e at
   broken_by_a_call : (t : Told) (behind : List (List Item)) → full_lines e.items ≡ all_lines (lined t ∷ []) behind → AreTold (t ∷ []) behind → at ≡ start_of 0 t
-      → (lined t).sign ≡ [] → (IsBesideOwn (joined (lined t).before) t → ⊥) → IsExceptedWithCalls e at
+      → (lined t).sign ≡ [] → (IsBesideOwn e (joined (lined t).before) t → ⊥) → IsExceptedWithCalls e at
 
 -- a node of a page's tree that begins so, with calls in it or without
 pub record IsExceptedCalling (pages : Pages) (page : List ℕ) (t : Tree) : Type 0 where

@@ -1,8 +1,8 @@
 -- Any number of paragraphs and headings of a page, which may hold calls, where they are in it, by the lines of the expanded page: in the body, in cells and in captions.
-use Rattle.std.specs.Prelude.{◌≡◌, ◌≤◌, ℕ, ◌+◌, true, Bool, None, List, [], ◌∷◌, ◌++◌, length}
+use Rattle.std.specs.Prelude.{◌≡◌, ◌⊎◌, ◌≤◌, ℕ, ◌+◌, true, Bool, None, List, [], ◌∷◌, ◌++◌, length}
 use Rattle.std.specs.List.{list_all, AllByRecursion}
 use Rattle.std.specs.Str.{IsUtf8}
-use Rattle.wt_span.specs.Items.{Item, is_mark}
+use Rattle.wt_span.specs.Items.{Item, is_mark, call_of}
 use Rattle.wt_span.specs.Origins.{OuterCall, Span}
 use Rattle.wt_annotated.specs.Seams.{last_of, text_from}
 use Rattle.wt_lines.specs.Lines.{content, is_break_item, full_lines}
@@ -14,6 +14,7 @@ use Rattle.wt_commands.specs.Answers.{refusal_of_page}
 use Rattle.wt_part_laws.specs.Slots.{AllTrue}
 use Rattle.wt_text_edit_laws.specs.BlockSpots.{BlockSpot}
 use Rattle.wt_text_edit_laws.specs.ParagraphParts.{break}
+use Rattle.wt_text_edit_laws.specs.SignParts.{IsLedTo}
 use Rattle.wt_text_edit_laws.specs.TextBlocks.{TextBlock, a_paragraph, a_heading, source_of}
 use Rattle.wt_called_edit_laws.specs.AnyBlocks.{open_after, EndsFor, NextApart}
 use Rattle.wt_called_edit_laws.specs.CallingBlocks.{AreContentsInFolder}
@@ -57,18 +58,32 @@ AreCallingLined (b ∷ bs) behind = IsCallingAt [] b × AreCallingAfter b.block 
 abbrev pub spot_on : List OuterCall → List Item → LinedBlock → BlockSpot
 spot_on calls es b = record { before = text_from calls None ((es ++ joined b.before) ++ lead_of b); block = b.block; text = b.text }
 
--- The line break before its lines, the sign and marks that begin them and each line break in them come from no call. What is on the page for them is the block's
--- source. So the block may begin or end with a call. Behind a sign its source begins with no `}`.
-pub record IsCallingHere (calls : List OuterCall) (b : LinedBlock) : Type 0 where
+-- a block's lines behind their marks begin with an item of no call
+abbrev pub BeginsAlone : List Item → Type 0
+BeginsAlone [] = ⊥
+BeginsAlone (x ∷ xs) = call_of x ≡ None
+
+-- The line break before its lines, the sign and the marks that begin them come from no call. Behind a sign its source begins with no `}`.
+pub record IsOwnFront (b : LinedBlock) : Type 0 where
   pub before : last_of None (joined b.before) ≡ None
   pub marks : AreOfPage (lead_of b)
-  pub breaks : AllByRecursion (λ x. is_break_item x ≡ true → x ≡ break) (joined (b.first ∷ b.more))
-  pub source : text_from calls None (content (joined (b.first ∷ b.more))) ≡ source_of b.block b.text
   pub unclosed : IsApartFrom b.sign b.text
 
-abbrev pub AreCallingHere : List OuterCall → List LinedBlock → Type 0
-AreCallingHere calls [] = Unit {0}
-AreCallingHere calls (b ∷ bs) = IsCallingHere calls b × AreCallingHere calls bs
+-- Or these come from any calls, and the page is ended there for it, as behind a call; then its first item comes from none.
+pub record IsLedFront (calls : List OuterCall) (es : List Item) (b : LinedBlock) : Type 0 where
+  pub first : BeginsAlone (content (joined (b.first ∷ b.more)))
+  pub led : IsLedTo (text_from calls None ((es ++ joined b.before) ++ lead_of b)) b.block b.text
+
+-- So is what comes before it, where this is left of the line before. Each line break in its lines comes from no call. What is on the page for them is the
+-- block's source. So the block may begin or end with a call.
+pub record IsCallingHere (calls : List OuterCall) (es : List Item) (b : LinedBlock) : Type 0 where
+  pub front : IsOwnFront b ⊎ IsLedFront calls es b
+  pub breaks : AllByRecursion (λ x. is_break_item x ≡ true → x ≡ break) (joined (b.first ∷ b.more))
+  pub source : text_from calls None (content (joined (b.first ∷ b.more))) ≡ source_of b.block b.text
+
+abbrev pub AreCallingHere : List OuterCall → List Item → List LinedBlock → Type 0
+AreCallingHere calls es [] = Unit {0}
+AreCallingHere calls es (b ∷ bs) = IsCallingHere calls es b × AreCallingHere calls (ending (joined (b.first ∷ b.more))) bs
 
 -- No call that is text has a byte of a block or of the sign and marks that begin its line, or goes over one of their ends, where so many bytes come before the first part.
 abbrev pub AreApartFrom : List OuterCall → List Span → ℕ → List Item → List LinedBlock → Type 0
@@ -87,7 +102,7 @@ pub record IsLinedCalling (pages : Pages) (page : List ℕ) (bs : List LinedBloc
   pub utf8 : IsUtf8 page
   pub are : full_lines (expanded_page pages page).items ≡ all_lines bs behind
   pub lined : AreCallingLined bs behind
-  pub here : AreCallingHere (expanded_page pages page).outer bs
+  pub here : AreCallingHere (expanded_page pages page).outer [] bs
   pub contents : AreContentsInFolder pages (spots_of_lines pages page bs)
   pub editable : AreEditableContents pages (spots_of_lines pages page bs)
   pub apart : AreApartFrom (expanded_page pages page).outer (expanded_page pages page).text_calls 0 [] bs

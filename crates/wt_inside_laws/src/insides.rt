@@ -61,7 +61,7 @@ pub fn own_pieces_are_sent_as_they_are()
 /// So a retyped paragraph or heading of the page, whose content may be edited (`IsStyledIn`), is edited by what was sent for it, with the
 /// page's own nodes: its nodes and styles stay in their order, its texts go and others come, in a heading on one line, none in a style has a
 /// line break, and a line begins before each line of comments. Asked is that what was sent is as it is read, and that behind a tag that
-/// opens a pair and isn't closed on its line no node of this line ends in a tag that isn't ended, with something hidden in it (`EndTags`).
+/// opens a pair and isn't closed on its line no node of this line ends in a tag that isn't ended, with a mark in it (`EndTags`).
 #[tactic(auto)]
 pub fn retyped_blocks_are_edited()
     ensures { (k : TextBlock) (q : List ℕ) (items : Expanded) (page : List ℕ) (p : Pair) → IsRetyped same_node items page p

@@ -451,7 +451,7 @@ comment_within b q rest s h = by (begins (codes "<!--") bs) refl
 
 -- ---- references
 
-abbrev EntityWithin : ℕ → Option (ℕ × ℕ) → Type 0
+abbrev pub EntityWithin : ℕ → Option (ℕ × ℕ) → Type 0
 EntityWithin k None = Unit {0}
 EntityWithin k (Some e) = e.1 ≤ k + 1
 
@@ -558,7 +558,7 @@ number_within start most base k is_digit w bs e a is d some g =
     found true c m h = h
     found false c m h = tt
 
-entity_within : (k : ℕ) (bs : List ℕ) → 1 ≤ k → is_reference_byte (get_or bs k 0) ≡ false → EntityWithin k (entity_at bs)
+pub entity_within : (k : ℕ) (bs : List ℕ) → 1 ≤ k → is_reference_byte (get_or bs k 0) ≡ false → EntityWithin k (entity_at bs)
 unfolding entity_at named_entity decimal_entity hex_entity
 entity_within k bs some g =
     or_entity k (named_in entity_names bs) _ (named_within entity_names k bs names_are some g)

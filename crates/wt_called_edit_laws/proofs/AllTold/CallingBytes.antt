@@ -1,12 +1,12 @@
 -- Blocks that hold calls, told by the lines of an expanded page: the bytes at which they begin, and the paths that lead there.
-use Rattle.std.proofs.Common.{arith, ◌≡◌, ◌<◌, ◌≤◌, ◌⊎◌, inl, inr, ℕ, zero, suc, ◌+◌, Bool, None, Option, List, [], ◌∷◌, ◌++◌, length, map, refl, sym, ap, ap₂, ◌∙◌, subst, append_assoc}
+use Rattle.std.proofs.Common.{arith, ◌≡◌, ◌<◌, ◌≤◌, ◌⊎◌, inl, inr, ℕ, zero, suc, ◌+◌, Bool, None, Option, List, [], ◌∷◌, ◌++◌, length, map, refl, sym, ap, ap₂, ◌∙◌, subst, append_assoc, length-append}
 use Rattle.wt_span.specs.Items.{Item}
 use Rattle.wt_span.specs.Origins.{OuterCall}
 use Rattle.wt_span.specs.Runs.{AreRuns}
 use Rattle.wt_span.proofs.RunLaws.{runs_are}
 use Rattle.wt_tree.specs.Tree.{Label, Tree, tree, Trees}
 use Rattle.wt_annotated.specs.Seams.{last_of, text_from}
-use Rattle.wt_annotated.proofs.Seams.{last_append}
+use Rattle.wt_annotated.proofs.Seams.{last_append, text_append_from}
 use Rattle.wt_checks.specs.Kept.{children}
 use Rattle.wt_expand.specs.PageCalls.{expanded_page}
 use Rattle.wt_expand.specs.Work.{Pages}
@@ -30,14 +30,14 @@ use Rattle.wt_called_edit_laws.specs.CallingEdits.{IsCallingPage}
 use Rattle.wt_called_edit_laws.specs.CallingGroups.{block_with_groups, CallingNodesStay}
 use Rattle.wt_called_edit_laws.specs.Groups.{called_tree}
 use Rattle.wt_called_edit_laws.specs.LinedAmong.{spots_on, spots_of_lines, end_of_lines}
-use Rattle.wt_called_edit_laws.specs.LinedCalling.{AreCallingHere, AreCallingAfter, AreCallingLined, IsLinedCalling}
+use Rattle.wt_called_edit_laws.specs.LinedCalling.{BeginsAlone, IsOwnFront, IsLedFront, AreCallingHere, AreCallingAfter, AreCallingLined, IsLinedCalling}
 use Rattle.wt_called_edit_laws.specs.PartTexts.{HaveOwnSources}
 use Rattle.wt_called_edit_laws.specs.PathsTo.{paths_to}
 use Rattle.wt_called_edit_laws.specs.PlacedLines.{LinedBlock, all_lines, lead_of, front_rows}
 use Rattle.wt_called_edit_laws.specs.RowBlocks.{StandsOnRows}
 use Rattle.wt_called_edit_laws.specs.SettledAt.{AllSettled}
 use Rattle.wt_called_edit_laws.specs.ToldTogether.{IsAmongNumbers}
-use Rattle.wt_called_edit_laws.proofs.Among.BlockAt.{read_some}
+use Rattle.wt_called_edit_laws.proofs.Among.BlockAt.{read_some, own_same}
 use Rattle.wt_called_edit_laws.proofs.Among.CallingLines.{calling_whole, calling_editable}
 use Rattle.wt_called_edit_laws.proofs.Among.OwnItems.{from_page}
 use Rattle.wt_called_edit_laws.proofs.Among.OwnSeams.{own_last, text_size}
@@ -73,17 +73,26 @@ own_first : (calls : List OuterCall) (o : Option ℕ) (xs : List Item) → text_
 own_first calls o xs =
     ap (λ (bs : List ℕ). bs ++ text_from calls None xs) (behind_page calls o break refl ∙ sym (behind_page calls None break refl))
 
+pub seam_bytes : (calls : List OuterCall) (fr es xs : List Item) → ((fr ≡ []) × (es ≡ [])) ⊎ (es ≡ break ∷ [])
+    → text_from calls None (fr ++ (es ++ xs)) ≡ text_from calls None fr ++ text_from calls None (es ++ xs)
+seam_bytes calls fr es xs (inl e) =
+    let P : List Item → Type 0 = λ zs. text_from calls None (zs ++ (es ++ xs)) ≡ text_from calls None zs ++ text_from calls None (es ++ xs) in
+    subst P (sym e.0) refl
+seam_bytes calls fr es xs (inr e) =
+    let P : List Item → Type 0 = λ zs. text_from calls None (fr ++ (zs ++ xs)) ≡ text_from calls None fr ++ text_from calls None (zs ++ xs) in
+    subst P (sym e)
+    (text_append_from calls None fr (break ∷ xs) ∙ ap (λ (bs : List ℕ). text_from calls None fr ++ bs) (own_first calls (last_of None fr) xs))
+
 pub seam_text : (calls : List OuterCall) (fr es xs : List Item) → ((fr ≡ []) × (es ≡ [])) ⊎ (es ≡ break ∷ [])
     → length (text_from calls None (fr ++ (es ++ xs))) ≡ length (text_from calls None fr) + length (text_from calls None (es ++ xs))
-seam_text calls fr es xs (inl e) =
-    let P : List Item → Type 0 = λ zs. length (text_from calls None (zs ++ (es ++ xs))) ≡ length (text_from calls None zs) + length (text_from calls None (es ++ xs)) in
-    let z : length (text_from calls None (es ++ xs)) ≡ 0 + length (text_from calls None (es ++ xs)) = omega arith in
-    subst P (sym e.0) z
-seam_text calls fr es xs (inr e) =
-    let P : List Item → Type 0 = λ zs. length (text_from calls None (fr ++ (zs ++ xs))) ≡ length (text_from calls None fr) + length (text_from calls None (zs ++ xs)) in
-    subst P (sym e)
-    (text_size calls None fr (break ∷ xs)
-    ∙ ap (λ (bs : List ℕ). length (text_from calls None fr) + length bs) (own_first calls (last_of None fr) xs))
+seam_text calls fr es xs s = ap length (seam_bytes calls fr es xs s) ∙ length-append (text_from calls None fr) (text_from calls None (es ++ xs))
+
+-- behind items that end with one of the page's own, or before one, the same bytes are on the page
+pub own_behind : (calls : List OuterCall) (fs xs : List Item) → (last_of None fs ≡ None) ⊎ BeginsAlone xs
+    → text_from calls (last_of None fs) xs ≡ text_from calls None xs
+own_behind calls fs xs (inl e) = ap (λ (o : Option ℕ). text_from calls o xs) e
+own_behind calls fs [] (inr h) = absurd h
+own_behind calls fs (x ∷ xs) (inr h) = own_same calls (last_of None fs) (x ∷ xs) (inr (x, xs, refl, h))
 
 pub seam_last : (fr es : List Item) → ((fr ≡ []) × (es ≡ [])) ⊎ (es ≡ break ∷ []) → last_of None (fr ++ es) ≡ None
 seam_last fr es (inl e) = ap₂ (λ (xs ys : List Item). last_of None (xs ++ ys)) e.0 e.1
@@ -102,8 +111,17 @@ next_seam b [] behind fr r = tt
 next_seam b (c ∷ bs) behind fr r =
     let s = some_lines c.before (lead_of c ++ c.first) (c.more ++ all_lines bs behind) in inr (r.ends s.0 s.1 s.2)
 
+begun : (calls : List OuterCall) (front : List Item) (b : LinedBlock) → last_of None front ≡ None → (es : List Item) → IsOwnFront b ⊎ IsLedFront calls es b
+    → (last_of None (front ++ (joined b.before ++ lead_of b)) ≡ None) ⊎ BeginsAlone (content (own_items b))
+begun calls front b e es (inr h) = inr h.first
+begun calls front b e es (inl h) =
+    let line : List Item = joined b.before ++ lead_of b in
+    inl
+    (last_append None front line ∙ ap (λ (o : Option ℕ). last_of o line) e ∙ last_append None (joined b.before) (lead_of b)
+    ∙ ap (λ (o : Option ℕ). last_of o (lead_of b)) h.before ∙ own_last (lead_of b) (from_page (lead_of b) h.marks))
+
 starts_behind : (pages : Pages) (page : List ℕ) (all front fr es : List Item) (at : ℕ) (bs : List LinedBlock) (behind : Lines) (xs : List Item) → front ≡ fr ++ es
-    → at ≡ length (text_from (expanded_page pages page).outer None fr) → Seam fr es bs → AreCallingHere (expanded_page pages page).outer bs → AreFirst bs
+    → at ≡ length (text_from (expanded_page pages page).outer None fr) → Seam fr es bs → AreCallingHere (expanded_page pages page).outer es bs → AreFirst bs
     → AreRuns goes_on (all_lines bs behind) xs → all ≡ front ++ joined (all_lines bs behind) → AreOnes all
     → map (byte_at (expanded_page pages page).outer all) (block_starts (size front) bs) ≡ spot_starts at (spots_on (expanded_page pages page).outer es bs)
 starts_behind pages page all front fr es at [] behind xs f z s h some runs e ones = refl
@@ -126,14 +144,13 @@ starts_behind pages page all front fr es at (b ∷ bs) behind xs f z s h some ru
     omega (arith, ap (λ (zs : List Item). length (text_from calls None zs)) parts, seam_text calls fr es line s, z, ap length same_spot) in
     let first_byte : byte_at calls all (size front + size (joined b.before) + size (lead_of b)) ≡ at + length spot =
     ap (byte_at calls all) first ∙ byte_of calls here (own ++ joined tail) all whole ones ∙ text_is in
-    let last : last_of None here ≡ None =
-    last_append None front line ∙ ap (λ (o : Option ℕ). last_of o line) (ap (last_of None) f ∙ seam_last fr es s) ∙ last_append None (joined b.before) (lead_of b)
-    ∙ ap (λ (o : Option ℕ). last_of o (lead_of b)) h.0.before ∙ own_last (lead_of b) (from_page (lead_of b) h.0.marks) in
     let mine : List Item = content own in
+    let last : text_from calls (last_of None here) mine ≡ text_from calls None mine =
+    own_behind calls here mine (begun calls front b (ap (last_of None) f ∙ seam_last fr es s) es h.0.front) in
     let next : List Item = here ++ mine in
     let source : length (text_from calls None mine) ≡ length (source_of b.block b.text) = ap length h.0.source in
     let past : length (text_from calls None next) ≡ (at + length spot) + length (source_of b.block b.text) =
-    omega (arith, text_size calls None here mine, ap (λ (o : Option ℕ). length (text_from calls o mine)) last, source, text_is) in
+    omega (arith, text_size calls None here mine, ap length last, source, text_is) in
     let front_is : here ++ own ≡ next ++ ending own =
     ap (λ (zs : List Item). here ++ zs) (sym (content_ending own)) ∙ sym (append_assoc here mine (ending own)) in
     let own_lines : joined ((lead_of b ++ b.first) ∷ b.more) ≡ lead_of b ++ own = append_assoc (lead_of b) b.first (joined b.more) in

@@ -1,6 +1,6 @@
 -- Any number of paragraphs and headings of a page's tree, with calls in them or without, are on lines of the expanded page, one behind the other, and may be
 -- edited at their paths.
-use Rattle.std.proofs.Common.{arith, ◌≡◌, ◌≤◌, inl, inr, ℕ, ◌+◌, Bool, false, None, Option, List, [], ◌∷◌, ◌++◌, length, map, refl, sym, ap, ◌∙◌, subst, append_assoc}
+use Rattle.std.proofs.Common.{arith, ◌≡◌, ◌≤◌, ◌⊎◌, inl, inr, ℕ, ◌+◌, Bool, false, None, Option, List, [], ◌∷◌, ◌++◌, length, map, refl, sym, ap, ◌∙◌, subst, append_assoc}
 use Rattle.std.specs.List.{AllByRecursion}
 use Rattle.std.specs.Str.{IsUtf8}
 use Rattle.wt_span.specs.Items.{Item}
@@ -27,8 +27,11 @@ use Rattle.wt_called_edit_laws.specs.Covered.{HasFreeByte, HaveFreeBytes}
 use Rattle.wt_called_edit_laws.specs.EditableBlocks.{AreEditableContents}
 use Rattle.wt_called_edit_laws.specs.EditableNodes.{IsEditable}
 use Rattle.wt_called_edit_laws.specs.Groups.{called_tree}
-use Rattle.wt_called_edit_laws.specs.LinedAmong.{spots_on, AreBeside}
-use Rattle.wt_called_edit_laws.specs.LinedCalling.{AreCallingHere, AreApartFrom, IsLinedCalling}
+use Rattle.wt_called_edit_laws.specs.LinedAmong.{spots_on, AreOfPage, AreBeside}
+use Rattle.wt_text_edit_laws.specs.SignParts.{IsLedTo}
+use Rattle.wt_text_edit_laws.proofs.Blocks.SignedParts.{led_rest}
+use Rattle.wt_called_edit_laws.proofs.Among.CallingLines.{front_so}
+use Rattle.wt_called_edit_laws.specs.LinedCalling.{BeginsAlone, AreCallingHere, AreApartFrom, IsLinedCalling}
 use Rattle.wt_called_edit_laws.specs.PlacedLines.{LinedBlock, lead_of, all_lines}
 use Rattle.wt_called_edit_laws.specs.SignLines.{IsApartFrom}
 use Rattle.wt_called_edit_laws.specs.ToldLines.{Told, a_paragraph_of, a_heading_on, lined, AreToldAfter, rows_before}
@@ -37,7 +40,7 @@ use Rattle.wt_called_edit_laws.proofs.Among.OwnItems.{from_page}
 use Rattle.wt_called_edit_laws.proofs.Among.OwnSeams.{own_last, text_size}
 use Rattle.wt_called_edit_laws.proofs.Cells.PlacedLines.{own_items, Round, round}
 use Rattle.wt_called_edit_laws.proofs.AllTold.BlockBytes.{block_byte}
-use Rattle.wt_called_edit_laws.proofs.AllTold.CallingBytes.{Seam, seam_text, next_seam, AreFirst, TakenAt, taken_at, calling_bytes}
+use Rattle.wt_called_edit_laws.proofs.AllTold.CallingBytes.{Seam, seam_text, seam_bytes, own_behind, next_seam, AreFirst, TakenAt, taken_at, calling_bytes}
 use Rattle.wt_called_edit_laws.proofs.AllTold.ChosenLines.{byte_at, byte_of, among_mapped, last_suffix, lines_of_own, rest_is}
 use Rattle.wt_called_edit_laws.proofs.AllTold.Complete.{block_in}
 use Rattle.wt_called_edit_laws.proofs.AllTold.EndSigns.{page_signs}
@@ -131,11 +134,25 @@ found_so pages page ks front (a_heading_on b m l) tail e h =
 
 -- ---- all that are found
 
+abbrev Begun : List OuterCall → List Item → List Item → List Item → TextBlock → List ℕ → Type 0
+Begun calls front ms cs k q = ((last_of None front ≡ None) × AreOfPage ms) ⊎ (BeginsAlone cs × IsLedTo (text_from calls None (front ++ ms)) k q)
+
+ends_or : (calls : List OuterCall) (front ms cs : List Item) (k : TextBlock) (q : List ℕ) → Begun calls front ms cs k q → (last_of None (front ++ ms) ≡ None) ⊎ BeginsAlone cs
+ends_or calls front ms cs k q (inl h) = inl (last_append None front ms ∙ ap (λ (o : Option ℕ). last_of o ms) h.0 ∙ own_last ms (from_page ms h.1))
+ends_or calls front ms cs k q (inr h) = inr h.0
+
+-- behind what is left of the line before
+begun_here : (calls : List OuterCall) (here front j ms cs : List Item) (k : TextBlock) (q ps spot : List ℕ) → here ≡ front ++ j
+    → text_from calls None (here ++ ms) ≡ ps ++ spot → Begun calls here ms cs k q
+    → ((last_of None j ≡ None) × AreOfPage ms) ⊎ (BeginsAlone cs × IsLedTo spot k q)
+begun_here calls here front j ms cs k q ps spot is e (inl h) = inl (last_suffix front j (ap (last_of None) (sym is) ∙ h.0), h.1)
+begun_here calls here front j ms cs k q ps spot is e (inr h) = inr (h.0, led_rest ps spot k q (subst (λ (bs : List ℕ). IsLedTo bs k q) e h.1))
+
 -- blocks on these lines, where what is left of the line before is this, and so many bytes are before
 record AreJoined (pages : Pages) (page : List ℕ) (at : ℕ) (es : List Item) (ts : List Told) : Type 0 where
   bs : List LinedBlock
   on : AreOnTold ts bs
-  here : AreCallingHere (expanded_page pages page).outer bs
+  here : AreCallingHere (expanded_page pages page).outer es bs
   editable : AllByRecursion (λ (b : LinedBlock). IsEditable pages b.block b.text) bs
   apart : AreApartFrom (expanded_page pages page).outer (expanded_page pages page).text_calls at es bs
   free : HaveFreeBytes at (spots_on (expanded_page pages page).outer es bs) (called_tree pages page)
@@ -170,11 +187,11 @@ joined_from pages page ks front fr es at (t ∷ ts) behind xs f z s h some runs 
     omega (arith, ap (λ (zs : List Item). length (text_from calls None zs)) to_block, seam_text calls fr es (j ++ lead_of c) s, z, ap length same_spot) in
     let size_is : ℕ = length (source_of w.block w.text) in
     let end : ℕ = (at + length spot) + size_is in
-    let last : last_of None (here ++ lead_of c) ≡ None =
-    last_append None here (lead_of c) ∙ ap (λ (o : Option ℕ). last_of o (lead_of c)) w.known.ends ∙ own_last (lead_of c) (from_page (lead_of c) w.known.own_marks) in
+    let last : text_from calls (last_of None (here ++ lead_of c)) cs ≡ text_from calls None cs =
+    own_behind calls (here ++ lead_of c) cs (ends_or calls here (lead_of c) cs w.block w.text w.known.begun) in
     let next : List Item = (here ++ lead_of c) ++ cs in
     let past : end ≡ length (text_from calls None next) =
-    omega (arith, text_size calls None (here ++ lead_of c) cs, ap (λ (o : Option ℕ). length (text_from calls o cs)) last, ap length w.known.source, block_at) in
+    omega (arith, text_size calls None (here ++ lead_of c) cs, ap length last, ap length w.known.source, block_at) in
     let front_is : behind_lines here (own_lines t) ≡ next ++ ending own =
     behind_joined here (own_lines t) ∙ ap (λ (zs : List Item). here ++ zs) (lines_of_own t) ∙ sym (append_assoc here (lead_of c ++ cs) (ending own))
     ∙ ap (λ (zs : List Item). zs ++ ending own) (sym (append_assoc here (lead_of c) cs)) in
@@ -186,11 +203,13 @@ joined_from pages page ks front fr es at (t ∷ ts) behind xs f z s h some runs 
       on = (record { is = refl; kind = w.kind }, rest.on);
       here = (
         record {
-          before = last_suffix front j (ap (last_of None) (sym here_is) ∙ w.known.ends);
-          marks = w.known.own_marks;
+          front = front_so calls es (as_block c.before c.sign c.marks c.first c.more w.block w.text)
+              (subst (λ (zs : List Item). IsApartFrom zs w.text) (sym w.unsigned) tt)
+              (begun_here calls here front j (lead_of c) cs w.block w.text (text_from calls None fr) spot here_is
+              (ap (text_from calls None) to_block ∙ seam_bytes calls fr es (j ++ lead_of c) s ∙ ap (λ (bs : List ℕ). text_from calls None fr ++ bs) same_spot)
+              w.known.begun);
           breaks = w.known.breaks;
           source = w.known.source;
-          unclosed = subst (λ (zs : List Item). IsApartFrom zs w.text) (sym w.unsigned) tt;
         },
         rest.here,
       );

@@ -1,5 +1,5 @@
 -- Where no call of a page gives a line break or a mark, no block of it is excepted for a call.
-use Rattle.std.proofs.Common.{◌≡◌, ℕ, Bool, true, false, None, List, [], ◌∷◌, ◌++◌, refl, sym, ap, ◌∙◌, subst}
+use Rattle.std.proofs.Common.{◌≡◌, inl, ℕ, Bool, true, false, None, List, [], ◌∷◌, ◌++◌, refl, sym, ap, ◌∙◌, subst}
 use Rattle.std.specs.Prelude.{◌&&◌, if◌then◌else◌}
 use Rattle.std.specs.List.{list_all, AllByRecursion}
 use Rattle.wt_span.specs.Items.{Item, char, whole, is_mark, is_mark_form, call_of}
@@ -96,7 +96,7 @@ ends_none (x ∷ []) h e = by (is_break_item x) refl
 ends_none (x ∷ y ∷ ys) h e = ends_none (y ∷ ys) h.1 e
 
 pub beside_own : (pages : Pages) (page : List ℕ) (t : Told) (behind : List (List Item)) → AllByRecursion IsNoBreakOfCall (expanded_page pages page).items
-    → full_lines (expanded_page pages page).items ≡ all_lines (lined t ∷ []) behind → AreTold (t ∷ []) behind → (lined t).sign ≡ [] → IsBesideOwn (joined (lined t).before) t
+    → full_lines (expanded_page pages page).items ≡ all_lines (lined t ∷ []) behind → AreTold (t ∷ []) behind → (lined t).sign ≡ [] → IsBesideOwn (expanded_page pages page) (joined (lined t).before) t
 beside_own pages page t behind h are told unsigned =
     let items : List Item = (expanded_page pages page).items in
     let b : LinedBlock = lined t in
@@ -107,8 +107,10 @@ beside_own pages page t behind h are told unsigned =
     let later : AllByRecursion IsNoBreakOfCall (own_items b ++ joined behind) = behind_none (line_front b) (own_items b ++ joined behind) all in
     let runs : AreRuns goes_on (all_lines (b ∷ []) behind) items = subst (λ (ks : List (List Item)). AreRuns goes_on ks items) are (runs_are goes_on items) in
     record {
-      ends = ends_none (joined b.before) (front_none (joined b.before) (lead_of b) first) (whole_before b.before (lead_of b ++ b.first) (b.more ++ behind) items runs);
-      marks = marks_own b.marks (subst (AllByRecursion IsNoBreakOfCall) lead (behind_none (joined b.before) (lead_of b) first)) told.0.are_marks;
+      begun = inl (record {
+        ends = ends_none (joined b.before) (front_none (joined b.before) (lead_of b) first) (whole_before b.before (lead_of b ++ b.first) (b.more ++ behind) items runs);
+        marks = marks_own b.marks (subst (AllByRecursion IsNoBreakOfCall) lead (behind_none (joined b.before) (lead_of b) first)) told.0.are_marks;
+      });
       breaks = breaks_own (own_items b) (front_none (own_items b) (joined behind) later);
     }
 

@@ -84,7 +84,7 @@ less_or (suc m) (suc n) = by (less_or m n)
     by (inl h) = inl (omega (arith, h))
     by (inr h) = inr (omega (arith, h))
 
-or_decided : (A B : Type 0) → Decided A → Decided B → Decided (A ⊎ B)
+pub or_decided : (A B : Type 0) → Decided A → Decided B → Decided (A ⊎ B)
 or_decided A B (inl a) b = inl (inl a)
 or_decided A B (inr f) (inl b) = inl (inr b)
 or_decided A B (inr f) (inr g) = inr (by f g)
@@ -173,7 +173,7 @@ on_sign_decided a_paragraph [] = inl tt
 on_sign_decided a_paragraph (b ∷ q) = bool_decided (b == 125) false
 on_sign_decided (a_heading s) q = most_decided 1 s.level
 
-led_decided : (bs : List ℕ) (k : TextBlock) (q : List ℕ) → Decided (IsLedTo bs k q)
+pub led_decided : (bs : List ℕ) (k : TextBlock) (q : List ℕ) → Decided (IsLedTo bs k q)
 led_decided bs k q =
     or_decided (AreEnded bs) (AreSigned bs × IsOnSign k q) (by_decided is_end bs)
     (both_decided (AreSigned bs) (IsOnSign k q) (signed_decided bs) (on_sign_decided k q))

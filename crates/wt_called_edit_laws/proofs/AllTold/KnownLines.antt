@@ -5,7 +5,7 @@ use Rattle.std.proofs.lemmas.Bool.Decides.{nat_tests}
 use Rattle.std.specs.List.{AllByRecursion, list_all}
 use Rattle.std.specs.Str.{IsUtf8}
 use Rattle.wt_span.specs.Bytes.{is_break}
-use Rattle.wt_span.specs.Items.{Item, char, whole, is_mark}
+use Rattle.wt_span.specs.Items.{Item, char, whole, is_mark, call_of}
 use Rattle.wt_span.specs.Origins.{OuterCall, Span, Expanded}
 use Rattle.wt_span.specs.Runs.{AreRuns}
 use Rattle.wt_span.proofs.RunLaws.{runs_are}
@@ -27,12 +27,15 @@ use Rattle.wt_part_laws.specs.Expanded.{part_items}
 use Rattle.wt_part_laws.specs.HeldCalls.{block_in}
 use Rattle.wt_part_laws.specs.Placeless.{placeless}
 use Rattle.wt_text_edit_laws.specs.ParagraphParts.{break}
-use Rattle.wt_text_edit_laws.specs.TextBlocks.{TextBlock, source_of}
+use Rattle.wt_text_edit_laws.specs.ReadContents.{BeginsUnclosed, IsReadContent}
+use Rattle.wt_text_edit_laws.specs.SignParts.{IsLedTo}
+use Rattle.wt_text_edit_laws.specs.TextBlocks.{TextBlock, a_paragraph, a_heading, source_of, IsFrame}
+use Rattle.wt_called_edit_laws.specs.LinedCalling.{BeginsAlone}
 use Rattle.wt_called_edit_laws.specs.AllTold.{starts_in}
 use Rattle.wt_called_edit_laws.specs.CalledContents.{tree_round}
 use Rattle.wt_called_edit_laws.specs.CallingBlocks.{IsContentIn}
 use Rattle.wt_called_edit_laws.specs.CallingTogether.{IsEditableAt}
-use Rattle.wt_called_edit_laws.specs.CallingTold.{as_block, IsBesideOwn, on_a_sign, broken_by_a_call}
+use Rattle.wt_called_edit_laws.specs.CallingTold.{as_block, IsOwnBegun, IsLedBegun, IsBesideOwn, on_a_sign, broken_by_a_call}
 use Rattle.wt_called_edit_laws.specs.Covered.{HasFreeByte}
 use Rattle.wt_called_edit_laws.specs.EditableNodes.{IsEditable, IsEditableNode}
 use Rattle.wt_called_edit_laws.specs.Groups.{called_tree}
@@ -42,14 +45,14 @@ use Rattle.wt_called_edit_laws.specs.RowBlocks.{IsReachedIn, StandsIn}
 use Rattle.wt_called_edit_laws.specs.Settled.{settled}
 use Rattle.wt_called_edit_laws.specs.SignLines.{IsApartFrom}
 use Rattle.wt_called_edit_laws.specs.ToldLines.{Told, lined}
-use Rattle.wt_called_edit_laws.proofs.Among.CallingLines.{IsLinedWithCalls, IsGivenFirst, given_first}
+use Rattle.wt_called_edit_laws.proofs.Among.CallingLines.{front_so, IsLinedWithCalls, IsGivenFirst, given_first}
 use Rattle.wt_called_edit_laws.proofs.Among.TextEnds.{AreTextsIn}
 use Rattle.wt_called_edit_laws.proofs.Among.TextsBeside.{page_texts, from_byte, to_byte, apart_ranges, ends_before}
 use Rattle.wt_called_edit_laws.proofs.BareInsides.{IsBare}
 use Rattle.wt_called_edit_laws.proofs.Cells.PlacedLines.{own_items, Round, round}
 use Rattle.wt_called_edit_laws.proofs.TextsMake.{flat_same}
 use Rattle.wt_called_edit_laws.proofs.AllTold.BlockBytes.{end_byte, node_ends, block_byte}
-use Rattle.wt_called_edit_laws.proofs.AllTold.Chosen.{none_decided, own_decided}
+use Rattle.wt_called_edit_laws.proofs.AllTold.Chosen.{none_decided, own_decided, or_decided, led_decided}
 use Rattle.wt_called_edit_laws.proofs.AllTold.ChosenLines.{ones_front, ones_behind}
 use Rattle.wt_called_edit_laws.proofs.AllTold.Complete.{untouched_tree}
 use Rattle.wt_called_edit_laws.proofs.AllTold.NodeLines.{IsOfKind, IsUntold, NodeLines, node_lines, line_count, line_source}
@@ -87,15 +90,48 @@ breaks_decided [] = inl tt
 breaks_decided (x ∷ xs) =
     pair_decided (is_break_item x ≡ true → x ≡ break) (AllByRecursion (λ y. is_break_item y ≡ true → y ≡ break) xs) (break_decided x) (breaks_decided xs)
 
-beside_decided : (front : List Item) (t : Told) → Decided (IsBesideOwn front t)
-beside_decided front t = by (none_decided (last_of None front)) (own_decided (lined t).marks) (breaks_decided (joined ((lined t).first ∷ (lined t).more)))
+begun_decided : (front : List Item) (t : Told) → Decided (IsOwnBegun front t)
+begun_decided front t = by (none_decided (last_of None front)) (own_decided (lined t).marks)
   where
-    by : Decided (last_of None front ≡ None) → Decided (AreOfPage (lined t).marks)
-        → Decided (AllByRecursion (λ x. is_break_item x ≡ true → x ≡ break) (joined ((lined t).first ∷ (lined t).more))) → Decided (IsBesideOwn front t)
-    by (inl a) (inl b) (inl c) = inl (record { ends = a; marks = b; breaks = c })
-    by (inr f) b c = inr (λ h. f h.ends)
-    by (inl a) (inr f) c = inr (λ h. f h.marks)
-    by (inl a) (inl b) (inr f) = inr (λ h. f h.breaks)
+    by : Decided (last_of None front ≡ None) → Decided (AreOfPage (lined t).marks) → Decided (IsOwnBegun front t)
+    by (inl a) (inl b) = inl (record { ends = a; marks = b })
+    by (inr f) b = inr (λ h. f h.ends)
+    by (inl a) (inr f) = inr (λ h. f h.marks)
+
+alone_decided : (xs : List Item) → Decided (BeginsAlone xs)
+alone_decided [] = inr (λ h. h)
+alone_decided (x ∷ xs) = none_decided (call_of x)
+
+ledly_decided : (e : Expanded) (front : List Item) (t : Told) → Decided (IsLedBegun e front t)
+ledly_decided e front t =
+    let own : List Item = content (joined ((lined t).first ∷ (lined t).more)) in
+    by (alone_decided own) (led_decided (text_from e.outer None (front ++ (lined t).marks)) (lined t).block (text_from e.outer None own))
+  where
+    by : Decided (BeginsAlone (content (joined ((lined t).first ∷ (lined t).more))))
+        → Decided (IsLedTo (text_from e.outer None (front ++ (lined t).marks)) (lined t).block (text_from e.outer None (content (joined ((lined t).first ∷ (lined t).more)))))
+        → Decided (IsLedBegun e front t)
+    by (inl a) (inl b) = inl (record { first = a; led = b })
+    by (inr f) b = inr (λ h. f h.first)
+    by (inl a) (inr f) = inr (λ h. f h.led)
+
+beside_decided : (e : Expanded) (front : List Item) (t : Told) → Decided (IsBesideOwn e front t)
+beside_decided e front t =
+    by (or_decided (IsOwnBegun front t) (IsLedBegun e front t) (begun_decided front t) (ledly_decided e front t))
+    (breaks_decided (joined ((lined t).first ∷ (lined t).more)))
+  where
+    by : Decided (IsOwnBegun front t ⊎ IsLedBegun e front t)
+        → Decided (AllByRecursion (λ x. is_break_item x ≡ true → x ≡ break) (joined ((lined t).first ∷ (lined t).more))) → Decided (IsBesideOwn e front t)
+    by (inl a) (inl b) = inl (record { begun = a; breaks = b })
+    by (inr f) b = inr (λ h. f h.begun)
+    by (inl a) (inr f) = inr (λ h. f h.breaks)
+
+-- led to a block of its kind with this source
+led_kind : (bs t : List ℕ) (k j : TextBlock) (q : List ℕ) → IsLedTo bs k t → t ≡ source_of j q → IsOfKind k j → IsReadContent j q → IsLedTo bs j q
+led_kind bs t k j q (inl e) s kind h = inl e
+led_kind bs t a_paragraph a_paragraph q (inr e) s kind h = inr (e.0, subst BeginsUnclosed s e.1)
+led_kind bs t a_paragraph (a_heading z) q (inr e) s kind h = absurd kind
+led_kind bs t (a_heading z) a_paragraph q (inr e) s kind h = absurd kind
+led_kind bs t (a_heading z) (a_heading y) q (inr e) s kind h = let f : IsFrame y = h.begins in inr (e.0, f.sides.some)
 
 -- ---- no call that is text has a byte of it or of its marks
 
@@ -133,8 +169,7 @@ free_there pages page i is t from to u r e h start end =
 
 -- of a block behind these items and what begins its line, with these items
 pub record IsKnownHere (pages : Pages) (page : List ℕ) (front marks own : List Item) (k : TextBlock) (q : List ℕ) : Type 0 where
-  pub ends : last_of None front ≡ None
-  pub own_marks : AreOfPage marks
+  pub begun : ((last_of None front ≡ None) × AreOfPage marks) ⊎ (BeginsAlone (content own) × IsLedTo (text_from (expanded_page pages page).outer None (front ++ marks)) k q)
   pub breaks : AllByRecursion (λ x. is_break_item x ≡ true → x ≡ break) own
   pub source : text_from (expanded_page pages page).outer None (content own) ≡ source_of k q
   pub apart : AreBeside (length (text_from (expanded_page pages page).outer None front))
@@ -192,7 +227,7 @@ node_apart pages page i is t u r h n first =
     (subst (λ (m : ℕ). AreBeside (from_byte o) m e.text_calls) (to ∙ end) ranged))
 
 -- what it holds is its content with its calls, as this is read by itself
-node_tree : (pages : Pages) (page : List ℕ) (t : Tree) (n : NodeLines pages page t) (d : IsEditableNode pages t) → IsBesideOwn (joined (lined n.told).before) n.told
+node_tree : (pages : Pages) (page : List ℕ) (t : Tree) (n : NodeLines pages page t) (d : IsEditableNode pages t) → IsBesideOwn (expanded_page pages page) (joined (lined n.told).before) n.told
     → IsLinedWithCalls pages page (node_block n d ∷ []) n.rest
     → (j : ℕ) × (n.stands.block ≡ tree_round d.block (part_items pages j d.text))
 node_tree pages page t n d b alone =
@@ -240,8 +275,24 @@ pub record KnownNode (pages : Pages) (page : List ℕ) (t : Tree) : Type 0 where
   pub line : KnownTold pages page
   pub is : line.told ≡ lines.told
 
+begun_so : (pages : Pages) (page : List ℕ) (t : Tree) (n : NodeLines pages page t) (d : IsEditableNode pages t)
+    → text_from (expanded_page pages page).outer None (content (own_items (lined n.told))) ≡ source_of d.block d.text
+    → IsOwnBegun (joined (lined n.told).before) n.told ⊎ IsLedBegun (expanded_page pages page) (joined (lined n.told).before) n.told
+    → ((last_of None (joined (lined n.told).before) ≡ None) × AreOfPage (lead_of (lined n.told)))
+    ⊎ (BeginsAlone (content (own_items (lined n.told)))
+    × IsLedTo (text_from (expanded_page pages page).outer None (joined (lined n.told).before ++ lead_of (lined n.told))) d.block d.text)
+begun_so pages page t n d source (inl b) = inl (b.ends, subst AreOfPage (sym (lead_is pages page t n)) b.marks)
+begun_so pages page t n d source (inr b) =
+    let calls : List OuterCall = (expanded_page pages page).outer in
+    let fs : List Item = joined (lined n.told).before in
+    let own : List Item = content (own_items (lined n.told)) in
+    let c : IsContentIn pages d.block d.text = any_content pages d.block d.text d.content in
+    let led : IsLedTo (text_from calls None (fs ++ lead_of (lined n.told))) (lined n.told).block (text_from calls None own) =
+    subst (λ (ms : List Item). IsLedTo (text_from calls None (fs ++ ms)) (lined n.told).block (text_from calls None own)) (sym (lead_is pages page t n)) b.led in
+    inr (b.first, led_kind (text_from calls None (fs ++ lead_of (lined n.told))) (text_from calls None own) (lined n.told).block d.block d.text led source (n.kind d.block d.kind) c.read)
+
 known_so : (pages : Pages) (page : List ℕ) (i : ℕ) (is : List ℕ) (t : Tree) → IsUtf8 page → refusal_of_page pages page ≡ None → IsEditableAt pages page (i ∷ is) t
-    → (n : NodeLines pages page t) → IsBesideOwn (joined (lined n.told).before) n.told → KnownNode pages page t
+    → (n : NodeLines pages page t) → IsBesideOwn (expanded_page pages page) (joined (lined n.told).before) n.told → KnownNode pages page t
 known_so pages page i is t u r h n b =
     let calls : List OuterCall = (expanded_page pages page).outer in
     let spans : List Span = (expanded_page pages page).text_calls in
@@ -269,19 +320,14 @@ known_so pages page i is t u r h n b =
     let from_is : from ≡ 0 + from = omega arith in
     let first_apart : AreBeside (0 + line) ((0 + from) + long) spans =
     subst (λ (m : ℕ). AreBeside m ((0 + from) + long) spans) line_is (subst (λ (m : ℕ). AreBeside line (m + long) spans) from_is apart) in
-    let own_lead : AreOfPage (lead_of l) = subst AreOfPage (sym (lead_is pages page t n)) b.marks in
+    let begun : ((last_of None fs ≡ None) × AreOfPage (lead_of l)) ⊎ (BeginsAlone (content (own_items l)) × IsLedTo (text_from calls None (fs ++ lead_of l)) d.block d.text) =
+    begun_so pages page t n d source b.begun in
     let alone : IsLinedWithCalls pages page (c ∷ []) n.rest = record {
       utf8 = u;
       are = n.are;
       lined = lined_on (n.told ∷ []) (c ∷ []) n.rest (record { is = refl; kind = n.kind d.block d.kind }, tt) n.lines;
       here = (
-        record {
-          before = b.ends;
-          marks = own_lead;
-          breaks = b.breaks;
-          source = source;
-          unclosed = subst (λ (xs : List Item). IsApartFrom xs d.text) (sym n.unsigned) tt;
-        },
+        record { front = front_so calls [] c (subst (λ (xs : List Item). IsApartFrom xs d.text) (sym n.unsigned) tt) begun; breaks = b.breaks; source = source },
         tt,
       );
       contents = (any_content pages d.block d.text d.content, tt);
@@ -305,8 +351,7 @@ known_so pages page i is t u r h n b =
         text = d.text;
         kind = n.kind d.block d.kind;
         known = record {
-          ends = b.ends;
-          own_marks = own_lead;
+          begun = begun;
           breaks = b.breaks;
           source = source;
           apart = apart;
@@ -324,10 +369,10 @@ pub known_node : (pages : Pages) (page : List ℕ) (i : ℕ) (is : List ℕ) (t 
     → IsEditableAt pages page (i ∷ is) t → KnownNode pages page t
 known_node pages page i is t u r h = by (node_lines pages page (i ∷ is) t u r h.reached h.block)
   where
-    on : (n : NodeLines pages page t) → Decided (IsBesideOwn (joined (lined n.told).before) n.told) → KnownNode pages page t
+    on : (n : NodeLines pages page t) → Decided (IsBesideOwn (expanded_page pages page) (joined (lined n.told).before) n.told) → KnownNode pages page t
     on n (inl b) = known_so pages page i is t u r h n b
     on n (inr f) = absurd (h.unexcepted (record { stands = n.stands; begins_so = broken_by_a_call n.told n.rest n.are n.lines n.begins n.unsigned f }))
 
     by : NodeLines pages page t ⊎ IsUntold pages page t → KnownNode pages page t
     by (inr x) = absurd (h.unexcepted (record { stands = x.stands; begins_so = on_a_sign x.by_lines }))
-    by (inl n) = on n (beside_decided (joined (lined n.told).before) n.told)
+    by (inl n) = on n (beside_decided (expanded_page pages page) (joined (lined n.told).before) n.told)

@@ -8,6 +8,7 @@ use lib.Utf8.{encode}
 use Rattle.wt_span.specs.declared.form.ItemForm.TheVariants as form
 use Rattle.wt_span.specs.Comments.{comment_len, comment_line_len}
 use Rattle.wt_span.specs.Entities.{entity_at, named_entity, decimal_entity, hex_entity, entity_names}
+use Rattle.wt_span.specs.Origins.{OuterCall}
 use Rattle.wt_span.specs.Items.{Item, char, whole}
 use Rattle.wt_span.specs.Tags.{raw_len, opening_tag, tag_after, closing_tag, with_inside, is_extension, include_at}
 use Rattle.wt_span.specs.Lexemes.{sign_word, form_at, closed, words}
@@ -29,6 +30,7 @@ use Rattle.wt_expand.specs.Work.{Pages}
 use Rattle.wt_text_edit_laws.specs.LonePages.{page_chars}
 use Rattle.wt_text_edit_laws.specs.SignParts.{IsLedTo}
 use Rattle.wt_text_edit_laws.specs.TextBlocks.{a_paragraph}
+use Rattle.wt_called_edit_laws.specs.CallingTold.{IsBesideOwn}
 use Rattle.wt_called_edit_laws.specs.AllTold.{IsBesideNoCall}
 use Rattle.wt_called_edit_laws.specs.PlacedLines.{all_lines}
 use Rattle.wt_called_edit_laws.specs.ToldLines.{Told, a_paragraph_of, lined, AreTold}
@@ -79,6 +81,21 @@ nothing_before = refl
 
 nothing_unexcepted : IsBesideNoCall (expanded_page (template []) page) [] behind_nothing
 nothing_unexcepted = record { led = subst (λ (bs : List ℕ). IsLedTo bs a_paragraph (codes "x")) (sym nothing_before) led; ending = tt }
+
+-- so it isn't excepted as a block that may hold calls
+led_text : (calls : List OuterCall) → IsLedTo (codes "{{t}}") a_paragraph (text_from calls None (page_chars (codes "x")))
+led_text calls = inr (record { some = omega arith; sign = refl; unopened = refl }, refl)
+
+nothing_beside : IsBesideOwn (expanded_page (template []) page) [] behind_nothing
+nothing_beside =
+    let calls : List OuterCall = (expanded_page (template []) page).outer in
+    record {
+      begun = inr (record {
+        first = refl;
+        led = subst (λ (bs : List ℕ). IsLedTo bs a_paragraph (text_from calls None (page_chars (codes "x")))) (sym nothing_before) (led_text calls);
+      });
+      breaks = ((λ e. absurd (cc)), tt);
+    }
 
 -- ---- a call that gives a heading and a line break
 

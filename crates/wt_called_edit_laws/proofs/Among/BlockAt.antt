@@ -143,7 +143,7 @@ rest_own [] [] i f = inl refl
 rest_own [] (m ∷ ms) i f = let none : [] ≡ break ∷ [] = f m ms refl in cc
 rest_own (x ∷ es) tail i f = inr (x, es ++ joined tail, refl, ap call_of i.0)
 
-own_same : (calls : List OuterCall) (o : Option ℕ) (ys : List Item) → BeginsOwn ys → text_from calls o ys ≡ text_from calls None ys
+pub own_same : (calls : List OuterCall) (o : Option ℕ) (ys : List Item) → BeginsOwn ys → text_from calls o ys ≡ text_from calls None ys
 own_same calls o ys (inl e) = ap (text_from calls o) e ∙ sym (ap (text_from calls None) e)
 own_same calls o ys (inr (z, zs, e, own)) =
     let first : text_from calls o (z ∷ zs) ≡ source z ++ text_from calls (call_of z) zs =

@@ -1,5 +1,5 @@
 -- Worked case: the page `{{t}} {{t}}`, where `Template:T` is a word, begins and ends with a call, and is told by the one line that it gives.
-use Rattle.std.proofs.Common.{arith, inr, ◌≡◌, None, List, [], ◌∷◌, refl, sym, ap, ◌∙◌, subst}
+use Rattle.std.proofs.Common.{arith, inr, ◌≡◌, None, List, [], ◌∷◌, refl, sym, ap, ◌∙◌, subst, inl}
 use Rattle.std.specs.Str.Lossy.{utf8_valid_len}
 use Rattle.std.specs.Str.{is_utf8, chars}
 use Rattle.wt_beside_laws.proofs.Groups.Cases.{a_word}
@@ -69,9 +69,9 @@ stands : IsCallingAt [] a_line
 unfolding kind_of_signs
 stands = record { sign = tt; are_marks = refl; some = omega arith; in_cells = tt; apart = tt; own = (refl, tt) }
 
-are_here : AreCallingHere (expanded_page a_word source).outer (a_line ∷ [])
+are_here : AreCallingHere (expanded_page a_word source).outer [] (a_line ∷ [])
 are_here =
-    let text = is_text 0 in (record { before = refl; marks = tt; breaks = text.own_breaks; source = source_there; unclosed = tt }, tt)
+    let text = is_text 0 in (record { front = inl (record { before = refl; marks = tt; unclosed = tt }); breaks = text.own_breaks; source = source_there }, tt)
 
 apart_here : AreApartFrom (expanded_page a_word source).outer (expanded_page a_word source).text_calls 0 [] (a_line ∷ [])
 apart_here = subst (λ (ts : List Span). AreApartFrom (expanded_page a_word source).outer ts 0 [] (a_line ∷ [])) (sym no_text_calls) (tt, tt)

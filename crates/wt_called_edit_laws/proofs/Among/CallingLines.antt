@@ -17,8 +17,8 @@ use Rattle.wt_expand.specs.PageCalls.{expanded_page}
 use Rattle.wt_expand.specs.PageItems.{page_items}
 use Rattle.wt_expand.specs.Work.{Pages}
 use Rattle.wt_expand.proofs.PageLaws.{page_sources}
-use Rattle.wt_expand.proofs.PiecePlaces.{text_behind}
-use Rattle.wt_part_laws.specs.Expanded.{part_items}
+use Rattle.wt_expand.proofs.PiecePlaces.{text_behind, behind_page}
+use Rattle.wt_part_laws.specs.Expanded.{part_items, calls_in}
 use Rattle.wt_part_laws.specs.Lexer.{lexer}
 use Rattle.wt_part_laws.specs.Scans.{after_all}
 use Rattle.wt_commands.specs.Answers.{refusal_of_page}
@@ -44,14 +44,15 @@ use Rattle.wt_called_edit_laws.specs.EditableBlocks.{AreEditableContents, IsEdit
 use Rattle.wt_called_edit_laws.specs.Groups.{called_tree}
 use Rattle.wt_called_edit_laws.specs.InCells.{AreTextLines}
 use Rattle.wt_called_edit_laws.specs.LinedAmong.{spots_on, end_on, AreOfPage, AreBeside}
-use Rattle.wt_called_edit_laws.specs.LinedCalling.{IsCallingAt, AreCallingAfter, AreCallingLined, spot_on, IsCallingHere, AreCallingHere, AreApartFrom, IsLinedCalling}
+use Rattle.wt_called_edit_laws.specs.LinedCalling.{BeginsAlone, IsOwnFront, IsLedFront, IsCallingAt, AreCallingAfter, AreCallingLined, spot_on, IsCallingHere, AreCallingHere, AreApartFrom, IsLinedCalling}
+use Rattle.wt_called_edit_laws.specs.SignLines.{IsApartFrom}
 use Rattle.wt_called_edit_laws.specs.Parts.{calls_to, calls_past, called_items, called_outers, IsByParts}
 use Rattle.wt_called_edit_laws.specs.PartTexts.{AreSourcesAt}
 use Rattle.wt_called_edit_laws.specs.PlacedAmong.{StandAfter}
 use Rattle.wt_called_edit_laws.specs.PlacedCalling.{AreFurtherCutsAt, AreCutsAt, IsPlacedCalling}
 use Rattle.wt_called_edit_laws.specs.PlacedLines.{LinedBlock, all_lines, lead_of, front_rows}
 use Rattle.wt_called_edit_laws.proofs.Among.BlockAt.{read_some, calls_of, IsRest, text_to, block_from, block_to, past_front, BeginsOwn, rest_own, past_before, past_own, marked_text, beside_first, beside_front, beside_last}
-use Rattle.wt_called_edit_laws.proofs.Among.FirstItems.{FirstHas, EachThere, there_both, there_before, there_behind, part_there, called_there, NamedParts, named_parts, called_first, part_below}
+use Rattle.wt_called_edit_laws.proofs.Among.FirstItems.{FirstHas, EachThere, there_both, there_before, there_behind, part_there, called_there, NamedParts, named_parts, called_first, part_first, first_both, part_below}
 use Rattle.wt_called_edit_laws.proofs.Among.LinedParts.{EndsBreak, EndsOwn, own_end, ended_text, own_behind, own_text_size, ends_text, cancel, no_items, IsLeft, left_none, left_whole, open_at, line_front, block_front, page_rest}
 use Rattle.wt_called_edit_laws.proofs.Among.OwnSeams.{FirstLonger, FirstShorter, two_cuts, first_or, first_size, text_size, end_behind}
 use Rattle.wt_called_edit_laws.proofs.Among.PartsApart.{IsClear, members_of, AreClear, ArePartsApart, parts_apart}
@@ -65,6 +66,17 @@ use Rattle.wt_called_edit_laws.proofs.PartTexts.{IsBelow, part_text, sources_fir
 
 -- a block behind these items and these marks
 record IsCutHere (pages : Pages) (page : List ℕ) (p : ℕ) (xs ms : List Item) (k : TextBlock) (q : List ℕ) (ys qs : List Item) : Type 0 where
+  before : List Item
+  behind : List Item
+  is : qs ≡ before ++ (block_items k q ++ behind)
+  source : sources before ≡ text_from (calls_of pages page) None (xs ++ ms)
+  own_source : sources (block_items k q) ≡ source_of k q
+  first : IsClear (block_from pages page p xs ms) 0 (members_of page)
+  last : IsClear (block_to pages page p xs ms k q) 0 (members_of page)
+  next : IsRest pages page (block_to pages page p xs ms k q) ys behind
+
+-- so of marks of the page's own
+record IsOwnCut (pages : Pages) (page : List ℕ) (p : ℕ) (xs ms : List Item) (k : TextBlock) (q : List ℕ) (ys qs : List Item) : Type 0 where
   before : List Item
   behind : List Item
   is : qs ≡ before ++ (block_items k q ++ behind)
@@ -91,11 +103,11 @@ items_there page k q front own behind whole is h =
     let alone : page_items line ≡ own = shown_alone after line own begins second.front in
     sym alone ∙ ap page_items is ∙ h.unended
 
-cut_here : (pages : Pages) (page : List ℕ) (p : ℕ) (xs ms os : List Item) (k : TextBlock) (q : List ℕ) (ys qs : List Item)
+own_cut : (pages : Pages) (page : List ℕ) (p : ℕ) (xs ms os : List Item) (k : TextBlock) (q : List ℕ) (ys qs : List Item)
     → IsRest pages page p (xs ++ (ms ++ (os ++ ys))) qs → last_of None xs ≡ None → AreOfPage ms → BeginsOwn ys → IsReadContent k q
     → text_from (calls_of pages page) None os ≡ source_of k q
-    → AreBeside (text_to pages page p xs) (block_to pages page p xs ms k q) (expanded_page pages page).text_calls → IsCutHere pages page p xs ms k q ys qs
-cut_here pages page p xs ms os k q ys qs r ends marks own h is_source beside =
+    → AreBeside (text_to pages page p xs) (block_to pages page p xs ms k q) (expanded_page pages page).text_calls → IsOwnCut pages page p xs ms k q ys qs
+own_cut pages page p xs ms os k q ys qs r ends marks own h is_source beside =
     let calls : List OuterCall = calls_of pages page in
     let spans : List Span = (expanded_page pages page).text_calls in
     let line : ℕ = text_to pages page p xs in
@@ -131,6 +143,53 @@ cut_here pages page p xs ms os k q ys qs r ends marks own h is_source beside =
           (page_marks page));
       own_source = sym (ap sources mine_is) ∙ mine_source;
       first = subst (λ (n : ℕ). IsClear n 0 (members_of page)) size second.clear;
+      last = subst (λ (n : ℕ). IsClear n 0 (members_of page)) all_size third.clear;
+      next = subst (λ (n : ℕ). IsRest pages page n ys third.behind) all_size third.next;
+    }
+
+cut_of : (pages : Pages) (page : List ℕ) (p : ℕ) (xs ms : List Item) (k : TextBlock) (q : List ℕ) (ys qs : List Item) → IsOwnCut pages page p xs ms k q ys qs
+    → IsCutHere pages page p xs ms k q ys qs
+cut_of pages page p xs ms k q ys qs h = record {
+  before = h.before;
+  behind = h.behind;
+  is = h.is;
+  source = h.source;
+  own_source = h.own_source;
+  first = h.first;
+  last = h.last;
+  next = h.next;
+}
+
+-- and of one whose first item comes from no call
+led_cut : (pages : Pages) (page : List ℕ) (p : ℕ) (xs ms os : List Item) (k : TextBlock) (q : List ℕ) (ys qs : List Item)
+    → IsRest pages page p (xs ++ (ms ++ (os ++ ys))) qs → BeginsOwn (os ++ ys) → BeginsOwn ys → IsReadContent k q
+    → text_from (calls_of pages page) None os ≡ source_of k q
+    → AreBeside (text_to pages page p xs) (block_to pages page p xs ms k q) (expanded_page pages page).text_calls → IsCutHere pages page p xs ms k q ys qs
+led_cut pages page p xs ms os k q ys qs r begins own h is_source beside =
+    let calls : List OuterCall = calls_of pages page in
+    let spans : List Span = (expanded_page pages page).text_calls in
+    let line : ℕ = text_to pages page p xs in
+    let from : ℕ = block_from pages page p xs ms in
+    let to : ℕ = block_to pages page p xs ms k q in
+    let less : line ≤ from = omega (arith, text_size calls None xs ms) in
+    let all_size : text_to pages page from os ≡ to = ap (λ (bs : List ℕ). from + length bs) is_source in
+    let mine_beside : AreBeside from to spans = beside_last line from to spans less beside in
+    let there : IsRest pages page p ((xs ++ ms) ++ (os ++ ys)) qs =
+    subst (λ (zs : List Item). IsRest pages page p zs qs) (sym (append_assoc xs ms (os ++ ys))) r in
+    let first = past_before pages page p (xs ++ ms) (os ++ ys) qs there begins (beside_first from to spans (omega arith) mine_beside) in
+    let at_end : AreBeside to to spans = beside_last from to to spans (omega arith) mine_beside in
+    let third = past_before pages page from os ys first.behind first.next own (subst (λ (n : ℕ). AreBeside n n spans) (sym all_size) at_end) in
+    let mine : List Item = third.before in
+    let whole : page_items page ≡ first.next.front ++ (mine ++ third.behind) = first.next.whole ∙ ap (λ zs. first.next.front ++ zs) third.is in
+    let mine_source : sources mine ≡ source_of k q = third.source ∙ is_source in
+    let mine_is : mine ≡ block_items k q = items_there page k q first.next.front mine third.behind whole mine_source h in
+    record {
+      before = first.before;
+      behind = third.behind;
+      is = first.is ∙ ap (λ zs. first.before ++ zs) third.is ∙ ap (λ zs. first.before ++ (zs ++ third.behind)) mine_is;
+      source = first.source;
+      own_source = sym (ap sources mine_is) ∙ mine_source;
+      first = first.clear;
       last = subst (λ (n : ℕ). IsClear n 0 (members_of page)) all_size third.clear;
       next = subst (λ (n : ℕ). IsRest pages page n ys third.behind) all_size third.next;
     }
@@ -172,6 +231,32 @@ same_front calls xs o os gs bs e ends some t = by (two_cuts xs (o ∷ os) gs bs 
         let eq = ap length t in
         absurd (omega (arith, n, first, all, eq, some))
 
+-- so where the first item of the block comes from no call, and what the part of the block gives has bytes first
+same_led : (calls : List OuterCall) (k : ℕ) (xs : List Item) (o : Item) (os : List Item) (gs bs : List Item) → xs ++ o ∷ os ≡ gs ++ bs → call_of o ≡ None
+    → 1 ≤ length (text_from calls None (o ∷ [])) → FirstHas calls k bs → IsBelow k (last_of None gs) → text_from calls None xs ≡ text_from calls None gs
+    → (gs ≡ xs) × (bs ≡ o ∷ os)
+same_led calls k xs o os gs bs e own some f b t = by (two_cuts xs (o ∷ os) gs bs e)
+  where
+    longer : (us : List Item) → xs ≡ gs ++ us → bs ≡ us ++ o ∷ os → (gs ≡ xs) × (bs ≡ o ∷ os)
+    longer [] is rest = (sym (is ∙ append-nil gs), rest)
+    longer (u ∷ us) is rest =
+        let first : FirstHas calls k (u ∷ (us ++ o ∷ os)) = subst (FirstHas calls k) rest f in
+        let more = first (last_of None gs) b in
+        let parts = length-append (text_behind calls (last_of None gs) u) (text_from calls (call_of u) us) in
+        absurd (omega (arith, ap length t, ap (λ (zs : List Item). length (text_from calls None zs)) is, text_size calls None gs (u ∷ us), parts, more))
+
+    by : FirstLonger xs (o ∷ os) gs bs ⊎ FirstShorter xs (o ∷ os) gs bs → (gs ≡ xs) × (bs ≡ o ∷ os)
+    by (inl l) = longer l.us l.xs_are l.bs_are
+    by (inr s) =
+        let same : s.v ≡ o = ap (λ (zs : List Item). first_or o zs) (sym s.ys_are) in
+        let one = length-append (text_behind calls None o) [] in
+        let none = ap length (behind_page calls None o own) in
+        let here = ap length (behind_page calls (last_of None xs) o own) in
+        let parts = length-append (text_behind calls (last_of None xs) s.v) (text_from calls (call_of s.v) s.vs) in
+        let is = ap (λ (x : Item). length (text_behind calls (last_of None xs) x)) same in
+        let all = ap (λ (zs : List Item). length (text_from calls None zs)) s.gs_are ∙ text_size calls None xs (s.v ∷ s.vs) in
+        absurd (omega (arith, ap length t, all, parts, is, here, none, one, some))
+
 -- ---- one block
 
 -- so it is of its text by itself
@@ -188,11 +273,15 @@ some_items : (xs : List Item) → 1 ≤ length (sources xs) → 1 ≤ length xs
 some_items [] h = absurd (omega (arith, h))
 some_items (x ∷ xs) h = omega arith
 
+alone_own : (xs ys : List Item) → BeginsAlone xs → BeginsOwn (xs ++ ys)
+alone_own [] ys h = absurd h
+alone_own (x ∷ xs) ys h = inr (x, xs ++ ys, refl, h)
+
 -- a block with its lines among those of the page
 record IsHere (pages : Pages) (page : List ℕ) (open_tables : List Bool) (es : List Item) (b : LinedBlock) (tail : List (List Item)) (p : ℕ) (qs : List Item) : Type 0 where
   around : Round b tail
   items : es ++ joined (b.before ++ (((lead_of b ++ b.first) ∷ b.more) ++ tail)) ≡ block_front es b ++ (content (own_items b) ++ (ending (own_items b) ++ joined tail))
-  ends : EndsOwn (block_front es b)
+  ends : EndsOwn (block_front es b) ⊎ BeginsAlone (content (own_items b))
   led : IsLedTo (text_from (calls_of pages page) None (block_front es b)) b.block b.text
   here : IsCutHere pages page p (line_front es b) (lead_of b) b.block b.text (ending (own_items b) ++ joined tail) qs
   stays : StaysOn b.sign b.block (length (open_at open_tables b)) (content (own_items b))
@@ -201,40 +290,68 @@ record IsHere (pages : Pages) (page : List ℕ) (open_tables : List Bool) (es : 
 is_here : (pages : Pages) (page : List ℕ) (open_tables : List Bool) (es : List Item) (b : LinedBlock) (tail : List (List Item)) (p : ℕ) (qs xs : List Item)
     → AreRuns goes_on (b.before ++ (((lead_of b ++ b.first) ∷ b.more) ++ tail)) xs → IsLeft es
     → IsRest pages page p (es ++ joined (b.before ++ (((lead_of b ++ b.first) ∷ b.more) ++ tail))) qs → IsCallingAt open_tables b
-    → IsCallingHere (calls_of pages page) b → IsReadContent b.block b.text
+    → IsCallingHere (calls_of pages page) es b → IsReadContent b.block b.text
     → AreBeside (text_to pages page p (line_front es b)) (block_to pages page p (line_front es b) (lead_of b) b.block b.text) (expanded_page pages page).text_calls
     → IsHere pages page open_tables es b tail p qs
-is_here pages page open_tables es b tail p qs xs runs left rest h own read beside =
-    let calls : List OuterCall = calls_of pages page in
-    let ts : List (List Item) = b.first ∷ b.more in
-    let text : List Item = own_items b in
-    let before : List Item = joined b.before in
-    let front : List Item = line_front es b in
-    let others : List Item = content text ++ (ending text ++ joined tail) in
-    let r : Round b tail = round b tail xs h.some runs own.breaks in
-    let n : ℕ = length (open_at open_tables b) in
-    let none : last_of None front ≡ None =
-    last_append None es before ∙ ap (λ (o : Option ℕ). last_of o before) (left_none es left) ∙ own.before in
-    let items : es ++ joined (b.before ++ (((lead_of b ++ b.first) ∷ b.more) ++ tail)) ≡ front ++ (lead_of b ++ others) =
-    ap (λ zs. es ++ zs) (r.items ∙ append_assoc before (lead_of b) others) ∙ sym (append_assoc es before (lead_of b ++ others)) in
-    let ends : EndsBreak front = own_end None front (left_whole es before left r.front_whole) none in
-    let there : IsRest pages page p (front ++ (lead_of b ++ others)) qs = subst (λ zs. IsRest pages page p zs qs) items rest in
-    let here = cut_here pages page p front (lead_of b) (content text) b.block b.text (ending text ++ joined tail) qs
-    there none own.marks (rest_own (ending text) tail r.own_ending r.ends) read own.source beside in
-    let mine : List Item = block_items b.block b.text in
-    let size : 1 ≤ length (sources mine) = omega (arith, ap length here.own_source, read_some b.block b.text read) in
-    let some : 1 ≤ length (mine ++ here.behind) = omega (arith, some_items mine size, length-append mine here.behind) in
-    record {
+is_here pages page open_tables es b tail p qs xs runs left rest h own read beside = by own.front
+  where
+    calls : List OuterCall
+    calls = calls_of pages page
+
+    front : List Item
+    front = line_front es b
+
+    before : List Item
+    before = joined b.before
+
+    text : List Item
+    text = own_items b
+
+    last : List Item
+    last = ending text ++ joined tail
+
+    r : Round b tail
+    r = round b tail xs h.some runs own.breaks
+
+    items : es ++ joined (b.before ++ (((lead_of b ++ b.first) ∷ b.more) ++ tail)) ≡ front ++ (lead_of b ++ (content text ++ last))
+    items =
+        ap (λ zs. es ++ zs) (r.items ∙ append_assoc before (lead_of b) (content text ++ last)) ∙ sym (append_assoc es before (lead_of b ++ (content text ++ last)))
+
+    there : IsRest pages page p (front ++ (lead_of b ++ (content text ++ last))) qs
+    there = subst (λ zs. IsRest pages page p zs qs) items rest
+
+    begins : BeginsOwn last
+    begins = rest_own (ending text) tail r.own_ending r.ends
+
+    so : EndsOwn (block_front es b) ⊎ BeginsAlone (content text) → IsLedTo (text_from calls None (block_front es b)) b.block b.text
+        → IsCutHere pages page p front (lead_of b) b.block b.text last qs → IsHere pages page open_tables es b tail p qs
+    so ends led here = record {
       around = r;
-      items = items ∙ sym (append_assoc front (lead_of b) others);
-      ends = own_behind front (lead_of b) ends own.marks here.marks;
-      led = subst (λ (bs : List ℕ). IsLedTo bs b.block b.text) (sym here.marked)
-          (lead_led b.block b.text (length open_tables) b.before b.sign b.marks (mine ++ here.behind) (text_from calls None front) h.sign own.unclosed h.are_marks
-          here.marks_end here.marks some (ended_text calls front ends));
+      items = items ∙ sym (append_assoc front (lead_of b) (content text ++ last));
+      ends = ends;
+      led = led;
       here = here;
-      stays = lines_stay b.sign b.block (length open_tables) b.before n ts r.y r.ys r.some r.own_are h.sign h.own;
+      stays = lines_stay b.sign b.block (length open_tables) b.before (length (open_at open_tables b)) (b.first ∷ b.more) r.y r.ys r.some r.own_are h.sign h.own;
       leads = leads_by b.block open_tables b.before b.sign b.marks h.are_marks h.sign r.front_are r.front_whole h.in_cells h.apart;
     }
+
+    by : IsOwnFront b ⊎ IsLedFront calls es b → IsHere pages page open_tables es b tail p qs
+    by (inl f) =
+        let none : last_of None front ≡ None =
+        last_append None es before ∙ ap (λ (o : Option ℕ). last_of o before) (left_none es left) ∙ f.before in
+        let ends : EndsBreak front = own_end None front (left_whole es before left r.front_whole) none in
+        let here = own_cut pages page p front (lead_of b) (content text) b.block b.text last qs there none f.marks begins read own.source beside in
+        let mine : List Item = block_items b.block b.text in
+        let size : 1 ≤ length (sources mine) = omega (arith, ap length here.own_source, read_some b.block b.text read) in
+        let some : 1 ≤ length (mine ++ here.behind) = omega (arith, some_items mine size, length-append mine here.behind) in
+        so (inl (own_behind front (lead_of b) ends f.marks here.marks))
+        (subst (λ (bs : List ℕ). IsLedTo bs b.block b.text) (sym here.marked)
+        (lead_led b.block b.text (length open_tables) b.before b.sign b.marks (mine ++ here.behind) (text_from calls None front) h.sign f.unclosed h.are_marks
+        here.marks_end here.marks some (ended_text calls front ends)))
+        (cut_of pages page p front (lead_of b) b.block b.text last qs here)
+    by (inr f) =
+        so (inr f.first) f.led
+        (led_cut pages page p front (lead_of b) (content text) b.block b.text last qs there (alone_own (content text) last f.first) begins read own.source beside)
 
 -- ---- as parts
 
@@ -284,6 +401,13 @@ gives_so calls k own es tail gs xs e size ending ends f b = by (two_cuts own (es
     by (inl l) = longer l.us l.xs_are l.bs_are
     by (inr s) = absurd (shorter es tail ending ends s.v s.vs s.ys_are s.gs_are)
 
+-- either way
+first_same : (calls : List OuterCall) (k : ℕ) (xs own : List Item) (o : Item) (os rest gs bs : List Item) → own ≡ o ∷ os → xs ++ o ∷ (os ++ rest) ≡ gs ++ bs
+    → EndsOwn xs ⊎ BeginsAlone own → 1 ≤ length (text_from calls None (o ∷ [])) → FirstHas calls k bs → IsBelow k (last_of None gs)
+    → text_from calls None xs ≡ text_from calls None gs → (gs ≡ xs) × (bs ≡ o ∷ (os ++ rest))
+first_same calls k xs own o os rest gs bs is e (inl ends) some f b t = same_front calls xs o (os ++ rest) gs bs e ends some t
+first_same calls k xs own o os rest gs bs is e (inr alone) some f b t = same_led calls k xs o (os ++ rest) gs bs e (subst BeginsAlone is alone) some f b t
+
 -- what the part before it gives, and the block's, and what is behind it
 record ArePartsHere (pages : Pages) (page : List ℕ) (es : List Item) (b : LinedBlock) (tail : List (List Item)) (k : ℕ) (ss : List BlockSpot) (end : List ℕ) : Type 0 where
   first : part_items pages k (spot_on (calls_of pages page) es b).before ≡ block_front es b
@@ -291,7 +415,7 @@ record ArePartsHere (pages : Pages) (page : List ℕ) (es : List Item) (b : Line
   rest : ending (own_items b) ++ joined tail ≡ called_items pages (calls_past pages k (spot_on (calls_of pages page) es b)) ss end
 
 parts_here : (pages : Pages) (page : List ℕ) (open_tables : List Bool) (es : List Item) (b : LinedBlock) (tail : List (List Item)) (p : ℕ) (qs : List Item)
-    → IsHere pages page open_tables es b tail p qs → (k : ℕ) (ss : List BlockSpot) (end : List ℕ) → IsCallingHere (calls_of pages page) b
+    → IsHere pages page open_tables es b tail p qs → (k : ℕ) (ss : List BlockSpot) (end : List ℕ) → IsCallingHere (calls_of pages page) es b
     → IsReadContent b.block b.text
     → es ++ joined (b.before ++ (((lead_of b ++ b.first) ∷ b.more) ++ tail)) ≡ called_items pages k (spot_on (calls_of pages page) es b ∷ ss) end
     → NamedParts pages (calls_of pages page) k (spot_on (calls_of pages page) es b) ss end → ArePartsHere pages page es b tail k ss end
@@ -311,7 +435,11 @@ parts_here pages page open_tables es b tail p qs l k ss end h read e n =
     let mine : EachThere calls own = there_before calls own rest (there_behind calls front (own ++ rest) (subst (EachThere calls) (sym e ∙ l.items) each)) in
     let some = first_there calls own (omega (arith, read_some b.block b.text read, ap length h.source)) mine in
     let whole : front ++ some.0 ∷ (some.1 ++ rest) ≡ x1 ++ (x2 ++ x3) = ap (λ zs. front ++ (zs ++ rest)) (sym some.2) ∙ sym l.items ∙ e in
-    let same = same_front calls front some.0 (some.1 ++ rest) x1 (x2 ++ x3) whole l.ends some.3 (sym (part_text pages calls k s.before n.before)) in
+    let bytes : text_from calls None front ≡ text_from calls None x1 = sym (part_text pages calls k s.before n.before) in
+    let later : FirstHas calls (calls_to pages k s) (x2 ++ x3) =
+    first_both calls (calls_to pages k s) (calls_in pages q) x2 x3 (part_first pages calls (calls_to pages k s) q n.own)
+    (called_first pages calls (calls_past pages k s) ss end n.rest) in
+    let same = first_same calls (calls_to pages k s) front own some.0 some.1 rest x1 (x2 ++ x3) some.2 whole l.ends some.3 later (part_below pages k s.before) bytes in
     let behind : own ++ rest ≡ x2 ++ x3 = ap (λ zs. zs ++ rest) some.2 ∙ sym same.1 in
     let size : length (text_from calls None own) ≡ length (text_from calls None x2) =
     ap length (h.source ∙ sym (part_text pages calls (calls_to pages k s) q n.own)) in
@@ -336,7 +464,7 @@ record AreHere (pages : Pages) (page : List ℕ) (last : TextBlock) (open_tables
 
 further : (pages : Pages) (page : List ℕ) (last : TextBlock) (open_tables : List Bool) (es : List Item) (ls : List LinedBlock) (behind : List (List Item)) (p k : ℕ)
     (qs xs : List Item) → AreRuns goes_on (all_lines ls behind) xs → IsEnding es → ((m : List Item) (ms : List (List Item)) → all_lines ls behind ≡ m ∷ ms → es ≡ break ∷ [])
-    → IsRest pages page p (es ++ joined (all_lines ls behind)) qs → AreCallingAfter last open_tables ls behind → AreCallingHere (calls_of pages page) ls
+    → IsRest pages page p (es ++ joined (all_lines ls behind)) qs → AreCallingAfter last open_tables ls behind → AreCallingHere (calls_of pages page) es ls
     → AreContentsInFolder pages (spots_on (calls_of pages page) es ls)
     → AreApartFrom (calls_of pages page) (expanded_page pages page).text_calls p es ls → AreHere pages page last open_tables es ls behind p k qs
 further pages page last open_tables es [] behind p k qs xs runs i f r h own c u =
@@ -399,12 +527,20 @@ further pages page last open_tables es (b ∷ ls) behind p k qs xs runs i f r h 
 
 -- ---- the page
 
+-- what comes before a block, behind what is left of the line before
+pub front_so : (calls : List OuterCall) (es : List Item) (b : LinedBlock) → IsApartFrom b.sign b.text
+    → ((last_of None (joined b.before) ≡ None) × AreOfPage (lead_of b))
+    ⊎ (BeginsAlone (content (own_items b)) × IsLedTo (text_from calls None ((es ++ joined b.before) ++ lead_of b)) b.block b.text)
+    → IsOwnFront b ⊎ IsLedFront calls es b
+front_so calls es b apart (inl h) = inl (record { before = h.0; marks = h.1; unclosed = apart })
+front_so calls es b apart (inr h) = inr (record { first = h.0; led = h.1 })
+
 -- as `IsLinedCalling`, whatever bytes groups have
 pub record IsLinedWithCalls (pages : Pages) (page : List ℕ) (bs : List LinedBlock) (behind : List (List Item)) : Type 0 where
   pub utf8 : IsUtf8 page
   pub are : full_lines (expanded_page pages page).items ≡ all_lines bs behind
   pub lined : AreCallingLined bs behind
-  pub here : AreCallingHere (calls_of pages page) bs
+  pub here : AreCallingHere (calls_of pages page) [] bs
   pub contents : AreContentsInFolder pages (spots_on (calls_of pages page) [] bs)
   pub editable : AreEditableContents pages (spots_on (calls_of pages page) [] bs)
   pub apart : AreApartFrom (calls_of pages page) (expanded_page pages page).text_calls 0 [] bs

@@ -207,7 +207,7 @@ stretches_first calls k (own (x ∷ xs) ∷ ss) f p s = λ o b. omega (arith, f.
 stretches_first calls k (outer c xs ∷ ss) f p s = outer_first calls k c xs (numbered (suc k) ss) s.0 f.0
 stretches_first calls k (text_call t ∷ ss) f p s = stretches_first calls k ss f p s
 
-part_first : (pages : Pages) (calls : List OuterCall) (k : ℕ) (bs : List ℕ) → AreSourcesAt calls k (expanded_page pages bs).outer → FirstHas calls k (part_items pages k bs)
+pub part_first : (pages : Pages) (calls : List OuterCall) (k : ℕ) (bs : List ℕ) → AreSourcesAt calls k (expanded_page pages bs).outer → FirstHas calls k (part_items pages k bs)
 unfolding expanded_page
 part_first pages calls k bs s = stretches_first calls k (page_stretches pages bs) (page_filled pages bs) (own_page pages bs) s
 
@@ -241,7 +241,7 @@ below_more : (k n : ℕ) (o : Option ℕ) → IsBelow k o → IsBelow (k + n) o
 below_more k n None b = tt
 below_more k n (Some j) b = omega (arith, b)
 
-first_both : (calls : List OuterCall) (k n : ℕ) (xs ys : List Item) → FirstHas calls k xs → FirstHas calls (k + n) ys → FirstHas calls k (xs ++ ys)
+pub first_both : (calls : List OuterCall) (k n : ℕ) (xs ys : List Item) → FirstHas calls k xs → FirstHas calls (k + n) ys → FirstHas calls k (xs ++ ys)
 first_both calls k n [] [] f g = tt
 first_both calls k n [] (y ∷ ys) f g = λ o b. g o (below_more k n o b)
 first_both calls k n (x ∷ xs) ys f g = f
