@@ -5,7 +5,7 @@ use Rattle.std.specs.Char.{IsScalar, to_ascii_lowercase}
 use Rattle.std.specs.List.{prefix_len}
 use Rattle.std.proofs.lemmas.Bool.{cases_lt}
 use Rattle.std.proofs.lemmas.Bool.Decides.{nat_tests}
-use Rattle.std.proofs.lemmas.List.Elements.{All-nil, All-cons, All-head, All-tail}
+use Rattle.std.proofs.lemmas.List.Elements.{All-nil, All-cons, All-head}
 use Rattle.std.proofs.lemmas.Str.{encode_ascii, IsUtf8-encode}
 use Rattle.percent_encoding.proofs.PercentLemmas.{IsByte}
 use Rattle.wt_span.specs.declared.form.ItemForm.{ItemForm}

@@ -1,5 +1,5 @@
 -- Behind each `<` in a node comes a `]` or a `>`: so no closing tag that begins in it goes on behind it.
-use Rattle.std.proofs.Common.{arith, ◌≡◌, ℕ, zero, suc, ◌+◌, ◌-◌, ◌<◌, ◌≤◌, ◌==◌, Bool, true, false, Option, Some, None, List, [], ◌∷◌, length, take, drop, refl, sym, ap, ap₂, ◌∙◌, subst, inl, inr, ◌⊎◌, All}
+use Rattle.std.proofs.Common.{arith, ◌≡◌, ℕ, zero, suc, ◌+◌, ◌-◌, ◌≤◌, ◌==◌, Bool, true, false, Option, Some, None, List, [], ◌∷◌, length, take, drop, refl, sym, ap, ap₂, ◌∙◌, subst, inl, inr, ◌⊎◌, All}
 use Rattle.std.specs.Prelude.{◌&&◌, ◌||◌, codes, if◌then◌else◌}
 use Rattle.std.proofs.lemmas.Bool.Decides.{nat_tests}
 use Rattle.std.proofs.lemmas.List.{length-drop}
@@ -16,7 +16,7 @@ use Rattle.wt_tiles.specs.declared.target.LinkKind.TheVariants.{Page, Category, 
 use Rattle.wt_tiles.specs.declared.target.Target.{Target}
 use Rattle.wt_tiles.specs.Glyphs.{in_class, is_small, first_is, run_len, byte_glyphs}
 use Rattle.wt_tiles.specs.Links.{target_of, kind_of, target_len, inner_len, has_pipe, head_len, link_shape, link_with, link_to, link_by, link_in}
-use Rattle.wt_tiles.specs.Partners.{number, partner}
+use Rattle.wt_tiles.specs.Partners.{number}
 use Rattle.wt_tiles.specs.Searches.{IsHead}
 use Rattle.wt_tiles.specs.Tags.{tag_at}
 use Rattle.wt_tiles.specs.Tiles.{size, len_of, switch_names}

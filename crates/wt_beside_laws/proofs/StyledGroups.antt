@@ -1,4 +1,5 @@
 -- Bold and italic beside calls: what such a content is in the page, where calls give words.
+pub mod Nesting
 pub mod Lines
 pub mod Paragraphs
 pub mod Blocks

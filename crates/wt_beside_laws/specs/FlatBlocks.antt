@@ -1,6 +1,5 @@
 -- The lines of a paragraph or a heading of the page; and texts that are typed in it beside nodes that stay.
 use Rattle.std.specs.Prelude.{◌≡◌, ℕ, false, None, List, [], ◌∷◌, ◌++◌, length}
-use Rattle.wt_span.specs.Characters as byte
 use Rattle.wt_span.specs.Items.{Item}
 use Rattle.wt_span.specs.Tags.{to_closing}
 use Rattle.wt_tree.specs.Tree.{Tree}

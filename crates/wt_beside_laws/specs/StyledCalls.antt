@@ -1,5 +1,5 @@
 -- A content with styles among whose signs are calls: what it is in the page, where the items of each sign that is no character are given.
-use Rattle.std.specs.Prelude.{◌≡◌, ◌⊎◌, ◌==◌, Bool, true, false, List, [], ◌∷◌, ◌++◌, encode_utf8, if◌then◌else◌, ◌&&◌}
+use Rattle.std.specs.Prelude.{◌≡◌, ◌⊎◌, ◌==◌, Bool, true, false, List, [], ◌∷◌, ◌++◌, encode_utf8, if◌then◌else◌, not, ◌&&◌, ◌||◌}
 use Rattle.wt_span.specs.Characters as byte
 use Rattle.wt_span.specs.Items.{Item}
 use Rattle.wt_tree.specs.Plain.{Plains, ended, text_before}
@@ -7,8 +7,10 @@ use Rattle.wt_guards.specs.Content.{ContentSign, Thing, is_group, letter, thing}
 use Rattle.wt_guards.specs.Guards.{Setting, is_guarded}
 use Rattle.wt_guards.specs.Letters.{is_escaped}
 use Rattle.wt_tree.specs.EditShapes.{edit_shape}
+use Rattle.wt_tree.specs.declared.edit_shape.InlineForm.{InlineForm}
+use Rattle.wt_tree.specs.declared.edit_shape.InlineForm.TheVariants as inline
 use Rattle.wt_tree.specs.declared.edit_shape.Place.TheVariants as place
-use Rattle.wt_inline.specs.ItemTree.{inner}
+use Rattle.wt_inline.specs.ItemTree.{ItemTree, ItemTrees, further, inner, nothing}
 use Rattle.wt_inline.specs.Parts.{Part, loose, node, parts}
 use Rattle.wt_inline.specs.declared.loose.Loose.TheVariants.{Text}
 use Rattle.wt_context.specs.Line.{line_parts}
@@ -62,33 +64,59 @@ AreUnstyledParts [] = Unit {0}
 AreUnstyledParts (loose k o b ∷ ps) = AreUnstyledParts ps
 AreUnstyledParts (node (inner h opening ts closing) ∷ ps) = IsUnstyledForm (edit_shape h.kind).inline × AreUnstyledParts ps
 
+-- In bold or italic or in neither: this style is of the other kind, and so is each in it, down to a node that is no style.
+abbrev pub NestsBy : InlineForm → Bool → Bool → Type 0 → Type 0
+NestsBy inline.Nothing bold italic inside = Unit {0}
+NestsBy inline.Characters bold italic inside = Unit {0}
+NestsBy inline.Bold bold italic inside = (bold ≡ false) × inside
+NestsBy inline.Italic bold italic inside = (italic ≡ false) × inside
+NestsBy inline.Shown bold italic inside = Unit {0}
+NestsBy inline.PageLink bold italic inside = Unit {0}
+NestsBy inline.ExternalLink bold italic inside = Unit {0}
+NestsBy inline.Tag bold italic inside = Unit {0}
+NestsBy inline.Break bold italic inside = Unit {0}
+NestsBy inline.AsItStood bold italic inside = Unit {0}
+
+abbrev mutual
+  pub NestsIn : Bool → Bool → ItemTree → Type 0
+  NestsIn bold italic (inner h opening ts closing) = NestsBy (edit_shape h.kind).inline bold italic (NestIn bold italic ts)
+
+  pub NestIn : Bool → Bool → ItemTrees → Type 0
+  NestIn bold italic nothing = Unit {0}
+  NestIn bold italic (further t ts) = NestsIn bold italic t × NestIn bold italic ts
+
+abbrev pub PartsNestIn : Bool → Bool → List Part → Type 0
+PartsNestIn bold italic [] = Unit {0}
+PartsNestIn bold italic (loose k o b ∷ ps) = PartsNestIn bold italic ps
+PartsNestIn bold italic (node t ∷ ps) = NestsIn bold italic t × PartsNestIn bold italic ps
+
 -- something of the page, or a node of it round calls
 abbrev pub IsOfPage : List Item → Type 0
 IsOfPage own = AreSomeOfPage (line_parts own) ⊎ IsRoundCalls own
 
--- On a line by itself: what a call gives, or something of the page. In a style a call gives no bold or italic of its own.
-abbrev pub IsOwnAt : Bool → Thing → List Item → Type 0
-IsOwnAt true x own = ((is_group x.role ≡ true) × AreOwnOrGiven (line_parts own) × AreUnstyledParts (line_parts own)) ⊎ IsOfPage own
-IsOwnAt false x own = ((is_group x.role ≡ true) × AreOwnOrGiven (line_parts own)) ⊎ IsOfPage own
+-- On a line by itself: what a call gives, or something of the page. In a style a call gives none of its kind.
+abbrev pub IsOwnAt : Bool → Bool → Thing → List Item → Type 0
+IsOwnAt bold italic x own = ((is_group x.role ≡ true) × AreOwnOrGiven (line_parts own) × PartsNestIn bold italic (line_parts own)) ⊎ IsOfPage own
 
--- of all nodes, delimiters apart; these are in a style, or else only some are
-abbrev pub AreOwnAt : Bool → StyledContent → List (List Item) → Type 0
-AreOwnAt within finished owns = Unit {0}
-AreOwnAt within (sign (letter c) t) owns = AreOwnAt within t owns
-AreOwnAt within (sign (thing x) t) [] = ⊥
-AreOwnAt within (sign (thing x) t) (own ∷ owns) = IsOwnAt within x own × AreOwnAt within t owns
-AreOwnAt within (styled bold opening closing inside t) owns =
-    AreOwnAt true inside (owns_left owns) × AreOwnAt within t (owns_left (owns_past inside (owns_left owns)))
+-- of all nodes, delimiters apart; these are in bold or italic or in neither
+abbrev pub AreOwnAt : Bool → Bool → StyledContent → List (List Item) → Type 0
+AreOwnAt bold italic finished owns = Unit {0}
+AreOwnAt bold italic (sign (letter c) t) owns = AreOwnAt bold italic t owns
+AreOwnAt bold italic (sign (thing x) t) [] = ⊥
+AreOwnAt bold italic (sign (thing x) t) (own ∷ owns) = IsOwnAt bold italic x own × AreOwnAt bold italic t owns
+AreOwnAt bold italic (styled kind opening closing inside t) owns =
+    AreOwnAt (kind || bold) (not kind || italic) inside (owns_left owns)
+    × AreOwnAt bold italic t (owns_left (owns_past inside (owns_left owns)))
 
 -- ---- the content
 
--- Texts that are typed beside calls and nodes that stay, and bold and italic round texts, nodes and calls that give none of their own; something else than
+-- Texts that are typed beside calls and nodes that stay, and bold and italic round texts, nodes and calls that give none of its kind; something else than
 -- calls is there.
 pub record IsStyledCalled (s : Setting) (t : StyledContent) (owns : List (List Item)) : Type 0 where
   pub of_block : s.within ≡ false
   pub characters : AreCharacters (signs_in t)
   pub given : AreGiven (signs_in t) owns
-  pub own : AreOwnAt false t owns
+  pub own : AreOwnAt false false t owns
   pub nested : AreNested false false t
   pub meet : AllMeetWith s [] [] (signs_in t) owns
   pub some : HasUncalled s [] (signs_in t)
@@ -100,7 +128,7 @@ pub record IsStyledCalledHeading (s : Setting) (t : StyledContent) (owns : List 
   pub one_line : AreOnOneLine (signs_in t)
   pub characters : AreCharacters (signs_in t)
   pub given : AreGiven (signs_in t) owns
-  pub own : AreOwnAt false t owns
+  pub own : AreOwnAt false false t owns
   pub nested : AreNested false false t
   pub meet : AllMeetWith s [] [] (signs_in t) owns
   pub end_seen : AllEndSeen owns

@@ -85,7 +85,7 @@ pub fn texts_beside_calls_are_shown()
         → plain_before (cut_texts (group_of_call calls j (forest (children (line_parts own))))) rest ≡ parts_shown_at 0 [] (line_parts own) rest }
 {}
 
-/// Bold and italic beside calls, round texts, nodes and calls that give none of their own (`IsStyledCalled`), are one paragraph with these texts and calls,
+/// Bold and italic beside calls, round texts, nodes and calls that give none of its kind (`IsStyledCalled`), are one paragraph with these texts and calls,
 /// whatever is typed beside them and in them: each style is a node round what is inside it (`styled_with`). It holds its calls: in the page's tree what
 /// each call gives is a group by itself. And it shows the texts, each in its bold or italic, and each node as its items show by themselves.
 pub fn styles_beside_calls_are_one_paragraph()

@@ -21,5 +21,6 @@ pub mod Cases
 mod PageCases
 pub mod InsideCases
 mod InsidePageCases
+mod OtherStyleCases
 pub mod HeadingCases
 mod HeadingPageCases

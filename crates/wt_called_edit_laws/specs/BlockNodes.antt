@@ -39,7 +39,7 @@ use Rattle.wt_beside_laws.specs.StyledNodes.{EndsUnquoted}
 use Rattle.wt_called_edit_laws.specs.CalledEdits.{ShowsAsGiven, page_things}
 use Rattle.wt_called_edit_laws.specs.InPieces.{pieces_source}
 use Rattle.wt_called_edit_laws.specs.PageThings.{AllMeetLater}
-use Rattle.wt_called_edit_laws.specs.StyledCallEdits.{GivesUnquoted, PlainGroups}
+use Rattle.wt_called_edit_laws.specs.StyledCallEdits.{GivesUnquoted, NestedGroups}
 use Rattle.wt_called_edit_laws.specs.WholeContents.{AreShutParts}
 use Rattle.wt_called_edit_laws.specs.Written.{BeginsOutward, EndsOutward, IsOwnPart}
 
@@ -91,8 +91,8 @@ ShowsAlone pages l ts = ((is_group l.kind ≡ true) × ShowsAsGiven pages (tree 
 abbrev pub IsNodeBy : InlineForm → Pages → Label → Trees → Type 0 → Type 0
 IsNodeBy inline.Nothing pages l ts inside = IsUnbraced (flat (tree l ts))
 IsNodeBy inline.Characters pages l ts inside = IsUtf8 l.shown × IsUnbraced (flat (tree l ts))
-IsNodeBy inline.Bold pages l ts inside = (face l ≡ style_face true) × PlainGroups pages ts × IsUnbraced l.opening × inside × IsUnbraced l.closing
-IsNodeBy inline.Italic pages l ts inside = (face l ≡ style_face false) × PlainGroups pages ts × IsUnbraced l.opening × inside × IsUnbraced l.closing
+IsNodeBy inline.Bold pages l ts inside = (face l ≡ style_face true) × NestedGroups pages true false ts × IsUnbraced l.opening × inside × IsUnbraced l.closing
+IsNodeBy inline.Italic pages l ts inside = (face l ≡ style_face false) × NestedGroups pages false true ts × IsUnbraced l.opening × inside × IsUnbraced l.closing
 IsNodeBy inline.Shown pages l ts inside = ShowsAlone pages l ts
 IsNodeBy inline.PageLink pages l ts inside = ShowsAlone pages l ts
 IsNodeBy inline.ExternalLink pages l ts inside = ShowsAlone pages l ts

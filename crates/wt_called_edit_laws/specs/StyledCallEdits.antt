@@ -1,6 +1,6 @@
 -- A paragraph or heading of the page with calls and with bold and italic in it, for which one with other texts beside these calls, and with other styles,
 -- is sent: what is written for it.
-use Rattle.std.specs.Prelude.{◌≡◌, ◌⊎◌, ℕ, true, false, List, [], ◌∷◌, ◌≢◌, map}
+use Rattle.std.specs.Prelude.{◌≡◌, ◌⊎◌, ℕ, Bool, true, false, not, List, [], ◌∷◌, ◌≢◌, map}
 use Rattle.std.specs.Str.{IsUtf8}
 use Rattle.wt_tree.specs.EditShapes.{edit_shape}
 use Rattle.wt_tree.specs.Plain.{face}
@@ -23,11 +23,11 @@ use Rattle.wt_typed_blocks.specs.Edited.{Pieces, PiecesStay, around, gone, kept,
 use Rattle.wt_beside_laws.specs.Called.{AreSomeOfPage}
 use Rattle.wt_beside_laws.specs.Cuts.{own_glyphs}
 use Rattle.wt_beside_laws.specs.FlatPages.{AreNodesAndTexts}
-use Rattle.wt_beside_laws.specs.NewStyles.{NewStylesNest}
+use Rattle.wt_beside_laws.specs.NewStyles.{NewStylesNest, is_bold}
 use Rattle.wt_beside_laws.specs.NodeItems.{node_items}
 use Rattle.wt_beside_laws.specs.Nodes.{is_quote_last}
 use Rattle.wt_beside_laws.specs.SentStyled.{AllNest, style_face}
-use Rattle.wt_beside_laws.specs.StyledCalls.{AreUnstyledParts}
+use Rattle.wt_beside_laws.specs.StyledCalls.{PartsNestIn}
 use Rattle.wt_beside_laws.specs.StyledNodes.{EndsUnquoted}
 use Rattle.wt_called_edit_laws.specs.CalledEdits.{FitsRound, IsChildBeside, TextsFitAt, page_things}
 use Rattle.wt_called_edit_laws.specs.InPieces.{AreInPieces, pieces_source}
@@ -57,25 +57,26 @@ abbrev mutual
   HaveNumbers none = Unit {0}
   HaveNumbers (more t ts) = HasNumbers t × HaveNumbers ts
 
--- however many calls come before it, what this gives has no bold or italic of its own
-abbrev pub GivesPlain : Pages → List ℕ → Type 0
-GivesPlain pages source = (i : ℕ) → AreUnstyledParts (line_parts (part_items pages i source))
+-- however many calls come before it, what this gives may be in bold or italic or in neither: it has no bold in bold, and no italic in italic
+abbrev pub GivesNested : Pages → Bool → Bool → List ℕ → Type 0
+GivesNested pages bold italic source = (i : ℕ) → PartsNestIn bold italic (line_parts (part_items pages i source))
 
 -- so each group, as this is all or part of it
 abbrev mutual
-  pub HasPlainGroups : Pages → Tree → Type 0
-  HasPlainGroups pages (tree l ts) = (is_group_kind l.kind ≡ true → GivesPlain pages (flat (tree l ts))) × PlainGroups pages ts
+  pub HasNestedGroups : Pages → Bool → Bool → Tree → Type 0
+  HasNestedGroups pages bold italic (tree l ts) =
+      (is_group_kind l.kind ≡ true → GivesNested pages bold italic (flat (tree l ts))) × NestedGroups pages bold italic ts
 
-  pub PlainGroups : Pages → Trees → Type 0
-  PlainGroups pages none = Unit {0}
-  PlainGroups pages (more t ts) = HasPlainGroups pages t × PlainGroups pages ts
+  pub NestedGroups : Pages → Bool → Bool → Trees → Type 0
+  NestedGroups pages bold italic none = Unit {0}
+  NestedGroups pages bold italic (more t ts) = HasNestedGroups pages bold italic t × NestedGroups pages bold italic ts
 
--- a text, whose characters are UTF-8; bold or italic without attributes, in which calls give none; a group, or another node without groups
+-- a text, whose characters are UTF-8; bold or italic without attributes, in which calls give none of its kind; a group, or another node without groups
 abbrev pub IsBesideBy : InlineForm → Pages → Label → Trees → Type 0 → Type 0
 IsBesideBy inline.Nothing pages l ts inside = IsChildBeside pages (tree l ts)
 IsBesideBy inline.Characters pages l ts inside = IsUtf8 l.shown × IsChildBeside pages (tree l ts)
-IsBesideBy inline.Bold pages l ts inside = (face l ≡ style_face true) × PlainGroups pages ts × inside
-IsBesideBy inline.Italic pages l ts inside = (face l ≡ style_face false) × PlainGroups pages ts × inside
+IsBesideBy inline.Bold pages l ts inside = (face l ≡ style_face true) × NestedGroups pages true false ts × inside
+IsBesideBy inline.Italic pages l ts inside = (face l ≡ style_face false) × NestedGroups pages false true ts × inside
 IsBesideBy inline.Shown pages l ts inside = IsChildBeside pages (tree l ts)
 IsBesideBy inline.PageLink pages l ts inside = IsChildBeside pages (tree l ts)
 IsBesideBy inline.ExternalLink pages l ts inside = IsChildBeside pages (tree l ts)
@@ -115,7 +116,7 @@ AreOwnThings pages [] = Unit {0}
 AreOwnThings pages (t ∷ ts) = IsOwnThing pages t × AreOwnThings pages ts
 
 -- A paragraph or heading of the page, whatever it is, in pieces: texts, calls, other nodes on one line, and delimiters. Its nodes are these calls and
--- nodes, with bold and italic round some; its styles nest, and a call in one gives none of its own.
+-- nodes, with bold and italic round some; its styles nest, and a call in one gives none of its kind.
 pub record IsBesideStyles (pages : Pages) (k : TextBlock) (q : List ℕ) (block : Tree) : Type 0 where
   pub pieces : List (List ℕ)
   pub is : pieces_source pieces ≡ q
@@ -160,17 +161,18 @@ NoCallGoes pages (kept t u ps) = NoCallGoes pages ps
 NoCallGoes pages (around l m is ps) = NoCallGoes pages is × NoCallGoes pages ps
 NoCallGoes pages (new_style m is ps) = NoCallGoes pages is × NoCallGoes pages ps
 
--- what calls give in a new style has no bold or italic of its own
-abbrev pub NewStylesArePlain : Pages → Pieces → Type 0
-NewStylesArePlain pages no_pieces = Unit {0}
-NewStylesArePlain pages (gone t ps) = NewStylesArePlain pages ps
-NewStylesArePlain pages (written x text ps) = NewStylesArePlain pages ps
-NewStylesArePlain pages (kept t u ps) = NewStylesArePlain pages ps
-NewStylesArePlain pages (around l m is ps) = NewStylesArePlain pages ps
-NewStylesArePlain pages (new_style m is ps) = PlainGroups pages (page_pieces is) × NewStylesArePlain pages ps
+-- what calls give in a new style has none of its kind
+abbrev pub NewStylesHoldNested : Pages → Pieces → Type 0
+NewStylesHoldNested pages no_pieces = Unit {0}
+NewStylesHoldNested pages (gone t ps) = NewStylesHoldNested pages ps
+NewStylesHoldNested pages (written x text ps) = NewStylesHoldNested pages ps
+NewStylesHoldNested pages (kept t u ps) = NewStylesHoldNested pages ps
+NewStylesHoldNested pages (around l m is ps) = NewStylesHoldNested pages is × NewStylesHoldNested pages ps
+NewStylesHoldNested pages (new_style m is ps) =
+    NestedGroups pages (is_bold m) (not (is_bold m)) (page_pieces is) × NewStylesHoldNested pages is × NewStylesHoldNested pages ps
 
 -- All its calls stay, in their order, and any other node and style stays or goes; each is sent as it is, and in a style other texts may be. Any texts are
--- between them, and new styles, as they may nest, round texts, nodes and calls that give none of their own. In a paragraph something is sent or put that
+-- between them, and new styles, as they may nest, round texts, nodes and calls that give none of their kind. In a paragraph something is sent or put that
 -- is no call, and in a heading no line break is typed.
 pub record IsStyledCallEdit (pages : Pages) (k : TextBlock) (block : Tree) (ps : Pieces) : Type 0 where
   pub old : page_pieces ps ≡ children_of block
@@ -178,5 +180,5 @@ pub record IsStyledCallEdit (pages : Pages) (k : TextBlock) (block : Tree) (ps :
   pub are : AreNodesAndTexts ps
   pub calm : NoCallGoes pages ps
   pub new : NewStylesNest false false ps
-  pub free : NewStylesArePlain pages ps
+  pub free : NewStylesHoldNested pages ps
   pub fits : TextsFitAt k block ps

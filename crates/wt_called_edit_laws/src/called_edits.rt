@@ -24,7 +24,7 @@ pub fn contents_beside_calls_are_made()
         → MakesContentIn pages k q block m ps }
 {}
 
-/// So for a paragraph or heading with bold and italic in it, also round calls that give none of their own (`IsBesideStyles`): all its calls are sent, any of its other
+/// So for a paragraph or heading with bold and italic in it, also round calls that give none of their kind (`IsBesideStyles`): all its calls are sent, any of its other
 /// nodes and styles, any texts between these and in the styles, and new bold and italic, as these may nest, round texts, nodes and such calls
 /// (`IsStyledCallEdit`).
 pub fn styles_beside_calls_are_made()

@@ -10,7 +10,7 @@ use Rattle.wt_typed_blocks.specs.Edited.{Pieces, no_pieces, gone, written, kept,
 use Rattle.wt_beside_laws.specs.OwnSigns.{HasOwnBy, HaveOwn}
 use Rattle.wt_beside_laws.specs.SentPieces.{IsNoNode, IsNodeForm, HaveNoStyle}
 use Rattle.wt_called_edit_laws.specs.CalledEdits.{AreGoneCalm}
-use Rattle.wt_called_edit_laws.specs.StyledCallEdits.{CallsNoneBy, CallNone, NoCallGoes, NewStylesArePlain}
+use Rattle.wt_called_edit_laws.specs.StyledCallEdits.{CallsNoneBy, CallNone, NoCallGoes, NewStylesHoldNested}
 use Rattle.wt_inside_laws.specs.RetypedPieces.{next_by, up_to_node, piece_by, piece_of, pieces_of, as_own}
 
 -- ---- what goes
@@ -105,12 +105,12 @@ no_call_goes pages (kept t u ps) h = no_call_goes pages ps h
 no_call_goes pages (around l m is ps) h = (no_call_goes pages is h.0, no_call_goes pages ps h.1)
 no_call_goes pages (new_style m is ps) h = absurd h
 
-pub none_is_new : (pages : Pages) (ps : Pieces) → OnlyTextsGone ps → NewStylesArePlain pages (as_own ps)
+pub none_is_new : (pages : Pages) (ps : Pieces) → OnlyTextsGone ps → NewStylesHoldNested pages (as_own ps)
 none_is_new pages no_pieces h = tt
 none_is_new pages (gone (tree l ts) ps) h = none_is_new pages ps h.1
 none_is_new pages (written x text ps) h = none_is_new pages ps h
 none_is_new pages (kept t u ps) h = none_is_new pages ps h
-none_is_new pages (around l m is ps) h = none_is_new pages ps h.1
+none_is_new pages (around l m is ps) h = (none_is_new pages is h.0, none_is_new pages ps h.1)
 none_is_new pages (new_style m is ps) h = absurd h
 
 -- ---- without styles

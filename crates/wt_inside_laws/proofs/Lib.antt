@@ -69,6 +69,7 @@ pub mod LocalCases
 pub mod EditCases
 pub mod CallingCases
 mod WithCallsCases
+mod OrdinaryCases
 pub mod Sources
 pub mod Meeting
 pub mod NodeNumbers

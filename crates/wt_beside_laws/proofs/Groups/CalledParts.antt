@@ -32,7 +32,7 @@ flat_nested [] f = tt
 flat_nested (letter c ∷ after) f = ((λ e. cc), flat_nested after f)
 flat_nested (thing t ∷ after) f = (f.0, flat_nested after f.1)
 
-flat_in : (signs : List ContentSign) (owns : List (List Item)) → AreIn false (flat_content signs) owns
+flat_in : (signs : List ContentSign) (owns : List (List Item)) → AreIn false false (flat_content signs) owns
 flat_in [] owns = tt
 flat_in (letter c ∷ after) owns = flat_in after owns
 flat_in (thing t ∷ after) [] = tt

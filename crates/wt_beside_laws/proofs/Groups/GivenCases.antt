@@ -38,6 +38,7 @@ use Rattle.wt_isolation.specs.GroupItems.{empty_nowiki}
 use Rattle.wt_isolation.specs.OpenTexts.{has_open_text}
 use Rattle.wt_beside_laws.specs.Given.{GivenContent, GivenSign, character, form, given_end, given_sign, given_style, signs_of, given_parts, AreNestedGiven, AreGivenSigns, AreGivenBy, IsGroup}
 use Rattle.wt_beside_laws.specs.Nodes.{IsLinkNode, IsBareNode}
+use Rattle.wt_beside_laws.specs.StyledCalls.{PartsNestIn}
 use Rattle.wt_beside_laws.proofs.OpenTags.{untagged_closed}
 use Rattle.wt_beside_laws.proofs.Groups.Cases.{beside_letters}
 use Rattle.wt_beside_laws.proofs.Groups.GivenParts.{given_line}
@@ -170,6 +171,17 @@ style_signs j =
 
 pub style_line : (j : ℕ) → line_parts (of_call j (codes "''b''")) ≡ given_parts j a_style
 style_line j = given_line j a_style (style_signs j) (refl, refl, refl, tt, refl, tt)
+
+-- in bold it may be, but not in italic
+pub italic_in_bold : (j : ℕ) → PartsNestIn true false (line_parts (of_call j (codes "''b''")))
+unfolding children
+italic_in_bold j = subst (PartsNestIn true false) (sym (style_line j)) ((refl, (tt, tt)), tt)
+
+italic_in_italic : (j : ℕ) → PartsNestIn false true (line_parts (of_call j (codes "''b''"))) → ⊥
+unfolding children
+italic_in_italic j h =
+    let own : PartsNestIn false true (given_parts j a_style) = subst (PartsNestIn false true) (style_line j) h in
+    let no : true ≡ false = own.0.0 in cc
 
 style_inside : (j : ℕ) → AreGivenBy j (given_parts j a_style)
 unfolding children

@@ -1,7 +1,6 @@
 -- A content that is written for a paragraph or a heading: its lines, and how it is read.
-use Rattle.std.proofs.Common.{◌≡◌, ℕ, Bool, true, false, None, List, [], ◌∷◌, ◌++◌, map, refl, sym, ap, ap₂, ◌∙◌, subst, append-nil, All}
+use Rattle.std.proofs.Common.{◌≡◌, ℕ, Bool, true, false, None, List, [], ◌∷◌, ◌++◌, refl, sym, ap, ap₂, ◌∙◌, subst, append-nil, All}
 use Rattle.std.specs.Prelude.{if◌then◌else◌}
-use Rattle.std.proofs.lemmas.List.Elements.{All-nil, All-cons, All-head, All-tail}
 use Rattle.std.specs.Str.{IsUtf8}
 use Rattle.wt_span.specs.Items.{Item, char}
 use Rattle.wt_tree.specs.declared.edit_shape.Place.{Place}
@@ -11,7 +10,7 @@ use Rattle.wt_guards.specs.Guards.{Setting, spelled}
 use Rattle.wt_expand.specs.PageItems.{page_items}
 use Rattle.wt_lines.specs.declared.kind.LineKind.TheVariants as line
 use Rattle.wt_lines.specs.Kinds.{line_kind}
-use Rattle.wt_lines.specs.Lines.{lines, content}
+use Rattle.wt_lines.specs.Lines.{lines}
 use Rattle.wt_text_edit_laws.specs.ReadContents.{BeginsUnjoined, StaysUncommented}
 use Rattle.wt_text_edit_laws.specs.TextBetween.{StandsBehind}
 use Rattle.wt_text_edit_laws.specs.TextBlocks.{TextBlock, a_paragraph, a_heading, source_of, block_items}

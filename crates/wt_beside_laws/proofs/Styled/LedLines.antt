@@ -1,18 +1,18 @@
 -- The lines of a content: a line of comments is only where a line begins, so it is in the block.
-use Rattle.std.proofs.Common.{arith, ◌≡◌, ◌⊎◌, ℕ, zero, suc, ◌+◌, ◌-◌, ◌<◌, ◌≤◌, Bool, true, false, Option, None, Some, List, [], ◌∷◌, ◌++◌, length, map, take, drop, refl, sym, ap, ap₂, ◌∙◌, subst, append-nil, inl, inr}
+use Rattle.std.proofs.Common.{arith, ◌≡◌, ℕ, zero, suc, ◌+◌, ◌-◌, ◌<◌, ◌≤◌, Bool, true, false, None, Some, List, [], ◌∷◌, ◌++◌, length, map, take, drop, refl, sym, ap, ◌∙◌, subst, append-nil, inl, inr}
 use Rattle.std.specs.List.{flat_map, AllByRecursion}
 use Rattle.std.specs.Str.{chars}
 use Rattle.std.proofs.lemmas.List.{take-append-drop}
 use Rattle.wt_span.specs.declared.form.ItemForm.TheVariants as form
 use Rattle.wt_span.specs.Comments.{comment_line_len}
-use Rattle.wt_span.specs.Items.{Item, char, whole, sources}
+use Rattle.wt_span.specs.Items.{Item, whole, sources}
 use Rattle.wt_tree.specs.declared.kind.Kind.{Kind}
 use Rattle.wt_tree.specs.EditShapes.{edit_shape}
 use Rattle.wt_tree.specs.Source.{flat}
 use Rattle.wt_tree.specs.Tiling.{HasNoGroup}
 use Rattle.wt_tree.specs.Tree.{Tree, Trees, label}
 use Rattle.wt_guards.specs.declared.role.Role.TheVariants as role
-use Rattle.wt_guards.specs.Content.{ContentSign, Thing, letter, thing}
+use Rattle.wt_guards.specs.Content.{ContentSign, Thing, letter}
 use Rattle.wt_original.specs.Kept.{found_in}
 use Rattle.wt_inline.specs.ItemTree.{ItemTree, forest}
 use Rattle.wt_inline.specs.Parts.{Part, loose, node, whole_tree, children}
@@ -31,8 +31,8 @@ use Rattle.wt_context.specs.Chunks.{chunks}
 use Rattle.wt_context.specs.Line.{context_parts, line_parts}
 use Rattle.wt_context.specs.Nodes.{tile_tree, tile_segments, segments}
 use Rattle.wt_context.specs.Segments.{Segment, loose_segments, segment_parts}
-use Rattle.wt_context.specs.Styled.{between, styled}
-use Rattle.wt_context.specs.Unstyled.{tile_parts as tile_parts_of, tile_part}
+use Rattle.wt_context.specs.Styled.{between}
+use Rattle.wt_context.specs.Unstyled.{tile_parts as tile_parts_of}
 use Rattle.wt_context.proofs.LineHolding.{between_all}
 use Rattle.wt_context.proofs.TilePlaces.{IsPlaced, tiles_placed}
 use Rattle.wt_expand.specs.PageItems.{page_items}
@@ -46,7 +46,7 @@ use Rattle.wt_text_edit_laws.specs.TextBlocks.{TextBlock, block_of}
 use Rattle.wt_text_edit_laws.proofs.Blocks.BlockLeaves.{open_items, close_items}
 use Rattle.wt_beside_laws.specs.Commented.{IsCommentLine, IsHeld}
 use Rattle.wt_beside_laws.specs.Content.{AreKept}
-use Rattle.wt_beside_laws.specs.FlatBlocks.{lines_in, begins_at, signs_in}
+use Rattle.wt_beside_laws.specs.FlatBlocks.{lines_in, begins_at}
 use Rattle.wt_beside_laws.specs.NodeItems.{node_items}
 use Rattle.wt_beside_laws.specs.Nodes.{AreNodes}
 use Rattle.wt_beside_laws.specs.OwnLed.{settled, line_by, is_line, AreOwnLed}
@@ -64,7 +64,7 @@ use Rattle.wt_beside_laws.proofs.Marks.Shown.{line_node}
 use Rattle.wt_beside_laws.proofs.Marks.Within.{Goes, chars_go, chars_some, tile_goes, kept_front}
 use Rattle.wt_beside_laws.proofs.OwnSigns.{Every, Finds, all_found}
 use Rattle.wt_beside_laws.proofs.PageSigns.{AreChars, are_chars, none_take, none_drop, flat_nodes}
-use Rattle.wt_beside_laws.proofs.PartThings.{IsThing, tree_source, HaveThings, nodes_of, stands_kind}
+use Rattle.wt_beside_laws.proofs.PartThings.{tree_source, HaveThings, nodes_of, stands_kind}
 use Rattle.wt_beside_laws.proofs.SentNodes.{no_things}
 use Rattle.wt_beside_laws.proofs.Styled.BlockStyles.{line_fill, line_is}
 use Rattle.wt_beside_laws.proofs.Styled.OwnLed.{AllNo, AllLed, led_lines, children_led, thing_no, line_on, EachNo, each_no, SegmentsLed, segments_then, parts_led, styled_led}

@@ -75,35 +75,33 @@ page_each : (P : ItemTree → Type 0) → ((qs : List Part) → AreOwnOrGiven qs
 page_each P f v own (inl p) = f (line_parts own) (page_given (line_parts own) (some_of_page (line_parts own) p))
 page_each P f v own (inr r) = round_each P v own r
 
-own_each : (P : ItemTree → Type 0) → ((qs : List Part) → AreOwnOrGiven qs → EachNode P qs) → OfRound P → (within : Bool) (x : Thing)
-    (own : List Item) → IsOwnAt within x own → EachNode P (line_parts own)
-own_each P f v true x own (inl g) = f (line_parts own) g.1
-own_each P f v true x own (inr p) = page_each P f v own p
-own_each P f v false x own (inl g) = f (line_parts own) g.1
-own_each P f v false x own (inr p) = page_each P f v own p
+own_each : (P : ItemTree → Type 0) → ((qs : List Part) → AreOwnOrGiven qs → EachNode P qs) → OfRound P → (bold italic : Bool) (x : Thing)
+    (own : List Item) → IsOwnAt bold italic x own → EachNode P (line_parts own)
+own_each P f v bold italic x own (inl g) = f (line_parts own) g.1
+own_each P f v bold italic x own (inr p) = page_each P f v own p
 
 -- what holds of nodes of the page and of calls, of nodes round calls, and of each style, holds of each of its nodes
 pub styled_each : (P : ItemTree → Type 0) → ((qs : List Part) → AreOwnOrGiven qs → EachNode P qs) → OfRound P → (s : Setting)
-    (within bold italic : Bool) (before : List ContentSign) (t : StyledContent) (after : List ContentSign) (owns : List (List Item)) → AreGiven (signs_before t after) owns → AreNested bold italic t → AreOwnAt within t owns
+    (bold italic : Bool) (before : List ContentSign) (t : StyledContent) (after : List ContentSign) (owns : List (List Item)) → AreGiven (signs_before t after) owns → AreNested bold italic t → AreOwnAt bold italic t owns
     → ((kind : Bool) (qs : List Part) → EachNode P qs → AreTexts qs → P (style_tree kind qs)) → EachNode P (styled_with false s before t after owns)
-styled_each P f v s within bold italic before finished after owns g k h w = let u : Bool = is_guarded s before after in f (parts Text (guard_items u)) (guard_own u)
-styled_each P f v s within bold italic before (sign (letter c) t) after owns g k h w =
+styled_each P f v s bold italic before finished after owns g k h w = let u : Bool = is_guarded s before after in f (parts Text (guard_items u)) (guard_own u)
+styled_each P f v s bold italic before (sign (letter c) t) after owns g k h w =
     let signs : List ContentSign = signs_before t after in
     let e : Bool = is_escaped s.within s.place before c signs in
     let u : Bool = is_guarded s before (letter c ∷ signs) in
     let more : List Part = styled_with false s (letter c ∷ before) t after owns in
     each_both P (parts Text (guard_items u)) (parts Text (letter_items e c) ++ more) (f (parts Text (guard_items u)) (guard_own u))
     (each_both P (parts Text (letter_items e c)) more (f (parts Text (letter_items e c)) (letter_own e c))
-    (styled_each P f v s within bold italic (letter c ∷ before) t after owns g k.1 h w))
-styled_each P f v s within bold italic before (sign (thing x) t) after [] g k h w = absurd h
-styled_each P f v s within bold italic before (sign (thing x) t) after (own ∷ owns) g k h w =
+    (styled_each P f v s bold italic (letter c ∷ before) t after owns g k.1 h w))
+styled_each P f v s bold italic before (sign (thing x) t) after [] g k h w = absurd h
+styled_each P f v s bold italic before (sign (thing x) t) after (own ∷ owns) g k h w =
     let signs : List ContentSign = signs_before t after in
     let u : Bool = is_guarded s before (thing x ∷ signs) in
     let more : List Part = styled_with false s (thing x ∷ before) t after owns in
     each_both P (parts Text (guard_items u)) (line_parts own ++ more) (f (parts Text (guard_items u)) (guard_own u))
-    (each_both P (line_parts own) more (own_each P f v within x own h.0)
-    (styled_each P f v s within bold italic (thing x ∷ before) t after owns g.1 k.1 h.1 w))
-styled_each P f v s within bold italic before (styled kind opening closing inside t) after owns g k h w =
+    (each_both P (line_parts own) more (own_each P f v bold italic x own h.0)
+    (styled_each P f v s bold italic (thing x ∷ before) t after owns g.1 k.1 h.1 w))
+styled_each P f v s bold italic before (styled kind opening closing inside t) after owns g k h w =
     let first : List ContentSign = delimiter kind opening ∷ before in
     let last : List ContentSign = delimiter kind closing ∷ signs_past inside first in
     let signs : List ContentSign = signs_before t after in
@@ -117,15 +115,15 @@ styled_each P f v s within bold italic before (styled kind opening closing insid
     let given_in : AreGiven held inner_owns = past_mark kind opening held owns g in
     let given_out : AreGiven signs outer = past_mark kind closing signs behind (given_behind inside closes inner_owns given_in) in
     each_both P (parts Text (guard_items u)) (node (style_tree kind ps) ∷ styled_with false s last t after outer) (f (parts Text (guard_items u)) (guard_own u)) (
-      w kind ps (styled_each P f v s true (kind || bold) (not kind || italic) first inside closes inner_owns given_in k.1 h.0 w)
+      w kind ps (styled_each P f v s (kind || bold) (not kind || italic) first inside closes inner_owns given_in k.1 h.0 w)
           (styled_texts s (kind || bold) (not kind || italic) first inside closes inner_owns given_in k.1),
-      styled_each P f v s within bold italic last t after outer given_out k.2 h.1 w,
+      styled_each P f v s bold italic last t after outer given_out k.2 h.1 w,
     )
 
-pub styled_own : (s : Setting) (t : StyledContent) (owns : List (List Item)) → AreGiven (signs_in t) owns → AreNested false false t → AreOwnAt false t owns
+pub styled_own : (s : Setting) (t : StyledContent) (owns : List (List Item)) → AreGiven (signs_in t) owns → AreNested false false t → AreOwnAt false false t owns
     → ArePieceNodes (styled_with false s [] t [] owns)
 styled_own s t owns g n w =
-    styled_each IsPieceNode (λ qs k. as_pieces qs k) (λ u r e. inr (deep_round u r)) s false false false [] t [] owns g n w (λ kind qs k a. inr (style_round kind qs))
+    styled_each IsPieceNode (λ qs k. as_pieces qs k) (λ u r e. inr (deep_round u r)) s false false [] t [] owns g n w (λ kind qs k a. inr (style_round kind qs))
 
 -- ---- something of it is the page's own
 
@@ -133,7 +131,7 @@ some_style : (kind : Bool) (ps : List Part) → list_any is_page (tree_items (st
 some_style true ps = refl
 some_style false ps = refl
 
-own_some : (x : Thing) (own : List Item) → IsOwnAt false x own → is_group x.role ≡ false → list_any is_page (held_parts (line_parts own)) ≡ true
+own_some : (x : Thing) (own : List Item) → IsOwnAt false false x own → is_group x.role ≡ false → list_any is_page (held_parts (line_parts own)) ≡ true
 own_some x own h b = elim h [
   | inl g ↦ let no : true ≡ false = sym g.0 ∙ b in absurd (cc)
   | inr k ↦ elim k [
@@ -142,7 +140,7 @@ own_some x own h b = elim h [
   ]
 ]
 
-styled_some : (s : Setting) (before : List ContentSign) (t : StyledContent) (owns : List (List Item)) → AreOwnAt false t owns → HasUncalled s before (signs_in t)
+styled_some : (s : Setting) (before : List ContentSign) (t : StyledContent) (owns : List (List Item)) → AreOwnAt false false t owns → HasUncalled s before (signs_in t)
     → list_any is_page (held_parts (styled_with false s before t [] owns)) ≡ true
 styled_some s before finished owns h b = some_guard (is_guarded s before []) b
 styled_some s before (sign (letter c) t) owns h b =

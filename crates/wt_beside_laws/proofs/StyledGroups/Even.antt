@@ -29,7 +29,7 @@ use Rattle.wt_beside_laws.proofs.StyledGroups.Paragraphs.{MeetsBehind, mark_late
 -- ---- a line
 
 toggles_even : (b : Bool) (s : Setting) (before : List ContentSign) (last : List Item) (t : StyledContent) (owns : List (List Item)) → AreGiven (signs_before t []) owns
-    → AreNested false false t → AreIn false t owns → AllMeetWith s before last (signs_before t []) owns
+    → AreNested false false t → AreIn false false t owns → AllMeetWith s before last (signs_before t []) owns
     → is_odd (is_of b) (toggles_of (chunks (segments context_parts in_line (line_with s before (signs_before t []) owns)))) ≡ false
 toggles_even b s before last t owns h k w m =
     let signs : List ContentSign = signs_before t [] in
@@ -39,7 +39,7 @@ toggles_even b s before last t owns h k w m =
     ∙ nest_even b r.nest r.nested
 
 even : (s : Setting) (before : List ContentSign) (last : List Item) (t : StyledContent) (owns : List (List Item)) → AreGiven (signs_before t []) owns
-    → AreNested false false t → AreIn false t owns → AllMeetWith s before last (signs_before t []) owns → HasEvenToggles (line_with s before (signs_before t []) owns)
+    → AreNested false false t → AreIn false false t owns → AllMeetWith s before last (signs_before t []) owns → HasEvenToggles (line_with s before (signs_before t []) owns)
 even s before last t owns h k w m = record { bold = toggles_even true s before last t owns h k w m; italic = toggles_even false s before last t owns h k w m }
 
 -- ---- the lines behind it
@@ -50,7 +50,7 @@ if_even true l ls h hs = (h, hs)
 if_even false l ls h hs = hs
 
 later_even : (s : Setting) (before : List ContentSign) (last : List Item) (t : StyledContent) (owns : List (List Item)) → AreGiven (signs_before t []) owns
-    → AreNested false false t → AreIn false t owns → AllMeetWith s before last (signs_before t []) owns
+    → AreNested false false t → AreIn false false t owns → AllMeetWith s before last (signs_before t []) owns
     → AllByRecursion HasEvenToggles (later_with s before (signs_before t []) owns)
 later_even s before last finished owns h k w m = tt
 later_even s before last (sign (letter c) t) owns h k w m =
@@ -79,18 +79,18 @@ later_even s before last (styled kind opening closing inside t) owns h k w m =
     ∙ mark_later s (signs_past inside first) kind closing signs behind given_end))
     (later_even s (delimiter kind closing ∷ signs_past inside first) c.last t (owns_left behind) (past_mark kind closing signs behind given_end) k.2 w.1 c.meet)
 
-all_even : (s : Setting) (t : StyledContent) (owns : List (List Item)) → AreGiven (signs_in t) owns → AreNested false false t → AreIn false t owns
+all_even : (s : Setting) (t : StyledContent) (owns : List (List Item)) → AreGiven (signs_in t) owns → AreNested false false t → AreIn false false t owns
     → AllMeetWith s [] [] (signs_in t) owns → AllByRecursion HasEvenToggles (lines (items_with s [] (signs_in t) owns))
 all_even s t owns h k w m =
     subst (AllByRecursion HasEvenToggles) (sym (lines_from s [] (signs_in t) owns h)) (even s [] [] t owns h k w m, later_even s [] [] t owns h k w m)
 
 pub styled_even : (s : Setting) (t : StyledContent) (owns : List (List Item)) → IsStyledCalled s t owns
     → AllByRecursion HasEvenToggles (lines (items_with s [] (signs_in t) owns))
-styled_even s t owns h = all_even s t owns h.given h.nested (own_in false t owns h.own) h.meet
+styled_even s t owns h = all_even s t owns h.given h.nested (own_in false false t owns h.own) h.meet
 
 pub styled_heading_even : (s : Setting) (t : StyledContent) (owns : List (List Item)) → IsStyledCalledHeading s t owns
     → AllByRecursion HasEvenToggles (lines (items_with s [] (signs_in t) owns))
-styled_heading_even s t owns h = all_even s t owns h.given h.nested (own_in false t owns h.own) h.meet
+styled_heading_even s t owns h = all_even s t owns h.given h.nested (own_in false false t owns h.own) h.meet
 
 -- ---- without styles
 
@@ -107,7 +107,7 @@ nested_unstyled [] f = tt
 nested_unstyled (letter c ∷ signs) f = (λ e. absurd (cc), nested_unstyled signs f)
 nested_unstyled (thing x ∷ signs) f = (f.0, nested_unstyled signs f.1)
 
-in_unstyled : (signs : List ContentSign) (owns : List (List Item)) → AreIn false (unstyled signs) owns
+in_unstyled : (signs : List ContentSign) (owns : List (List Item)) → AreIn false false (unstyled signs) owns
 in_unstyled [] owns = tt
 in_unstyled (letter c ∷ signs) owns = in_unstyled signs owns
 in_unstyled (thing x ∷ signs) [] = tt

@@ -75,7 +75,7 @@ styled_level s t owns sides h a = given_level s (signs_in t) owns sides h.of_blo
 pub styled_heading_parts : (s : Setting) (t : StyledContent) (owns : List (List Item)) → IsStyledCalledHeading s t owns
     → line_parts (items_with s [] (signs_in t) owns) ≡ styled_with false s [] t [] owns
 styled_heading_parts s t owns h =
-    ap line_parts (sym (same_items s [] (signs_in t) owns h.one_line)) ∙ called_line s [] [] t owns h.given h.nested (own_in false t owns h.own) h.meet
+    ap line_parts (sym (same_items s [] (signs_in t) owns h.one_line)) ∙ called_line s [] [] t owns h.given h.nested (own_in false false t owns h.own) h.meet
     ∙ same_line s [] t [] owns h.one_line
 
 -- ---- the heading

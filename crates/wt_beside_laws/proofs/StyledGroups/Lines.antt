@@ -28,6 +28,7 @@ use Rattle.wt_beside_laws.proofs.Styled.NestReads.{IsTail, NestRead, enclosed_re
 use Rattle.wt_beside_laws.proofs.Styled.NestRuns.{marks_first}
 use Rattle.wt_beside_laws.proofs.Styled.StyledLines.{MayEnd, Read, break_ends, cut_line, delimiter_added, ended_read, guard_read, letter_read, within_style}
 use Rattle.wt_beside_laws.proofs.Styled.StyledSigns.{after_delimiter, behind_quoted, is_quoted, is_quoted_last, quote_behind, quote_next, raw_next}
+use Rattle.wt_beside_laws.proofs.StyledGroups.Nesting.{neither, nest_parts, nest_rest, plain_nests}
 use Rattle.wt_beside_laws.specs.Called.{AllMeetWith, AreGiven, ArePageParts, AreSomeOfPage, line_with}
 use Rattle.wt_beside_laws.specs.Content.{guard_items, letter_items}
 use Rattle.wt_beside_laws.specs.Cuts.{add_node, guard_cut, letter_cut, own_form}
@@ -37,7 +38,7 @@ use Rattle.wt_beside_laws.specs.Nests.{mark_segments, nest_segments, style_of, s
 use Rattle.wt_beside_laws.specs.NodeItems.{node_items}
 use Rattle.wt_beside_laws.specs.RoundCalls.{IsRoundCalls, IsUnstyled}
 use Rattle.wt_beside_laws.specs.Styled.{AreNested, StyledContent, delimiter, finished, mark_source, sign, signs_before, signs_past, styled}
-use Rattle.wt_beside_laws.specs.StyledCalls.{AreOwnAt, AreUnstyledParts, IsOwnAt, owns_left, owns_past, styled_with}
+use Rattle.wt_beside_laws.specs.StyledCalls.{AreOwnAt, AreUnstyledParts, IsOwnAt, PartsNestIn, owns_left, owns_past, styled_with}
 
 -- ---- what is given behind a content
 
@@ -92,30 +93,35 @@ mark_cut s before kind place signs (own ∷ owns) h =
 
 -- ---- what a call gives, and a node that stays
 
--- in a style it is of the page, or a call that gives no style
-abbrev pub IsIn : Bool → Thing → List Item → Type 0
-IsIn true x own = IsOwnAt true x own
-IsIn false x own = Unit {0}
+-- in a style it is of the page, or a call that gives none of its kind
+abbrev pub IsIn : Bool → Bool → Thing → List Item → Type 0
+IsIn true italic x own = IsOwnAt true italic x own
+IsIn false true x own = IsOwnAt false true x own
+IsIn false false x own = Unit {0}
 
 -- so each, delimiters apart
-abbrev pub AreIn : Bool → StyledContent → List (List Item) → Type 0
-AreIn within finished owns = Unit {0}
-AreIn within (sign (letter c) t) owns = AreIn within t owns
-AreIn within (sign (thing x) t) [] = Unit {0}
-AreIn within (sign (thing x) t) (own ∷ owns) = IsIn within x own × AreIn within t owns
-AreIn within (styled bold opening closing inside t) owns = AreIn true inside (owns_left owns) × AreIn within t (owns_left (owns_past inside (owns_left owns)))
+abbrev pub AreIn : Bool → Bool → StyledContent → List (List Item) → Type 0
+AreIn bold italic finished owns = Unit {0}
+AreIn bold italic (sign (letter c) t) owns = AreIn bold italic t owns
+AreIn bold italic (sign (thing x) t) [] = Unit {0}
+AreIn bold italic (sign (thing x) t) (own ∷ owns) = IsIn bold italic x own × AreIn bold italic t owns
+AreIn bold italic (styled kind opening closing inside t) owns =
+    AreIn (kind || bold) (not kind || italic) inside (owns_left owns) × AreIn bold italic t (owns_left (owns_past inside (owns_left owns)))
 
-one_in : (within : Bool) (x : Thing) (own : List Item) → IsOwnAt within x own → IsIn within x own
-one_in true x own h = h
-one_in false x own h = tt
+one_in : (bold italic : Bool) (x : Thing) (own : List Item) → IsOwnAt bold italic x own → IsIn bold italic x own
+one_in true italic x own h = h
+one_in false true x own h = h
+one_in false false x own h = tt
 
-pub own_in : (within : Bool) (t : StyledContent) (owns : List (List Item)) → AreOwnAt within t owns → AreIn within t owns
-own_in within finished owns h = tt
-own_in within (sign (letter c) t) owns h = own_in within t owns h
-own_in within (sign (thing x) t) [] h = absurd h
-own_in within (sign (thing x) t) (own ∷ owns) h = (one_in within x own h.0, own_in within t owns h.1)
-own_in within (styled bold opening closing inside t) owns h =
-    (own_in true inside (owns_left owns) h.0, own_in within t (owns_left (owns_past inside (owns_left owns))) h.1)
+pub own_in : (bold italic : Bool) (t : StyledContent) (owns : List (List Item)) → AreOwnAt bold italic t owns → AreIn bold italic t owns
+own_in bold italic finished owns h = tt
+own_in bold italic (sign (letter c) t) owns h = own_in bold italic t owns h
+own_in bold italic (sign (thing x) t) [] h = absurd h
+own_in bold italic (sign (thing x) t) (own ∷ owns) h = (one_in bold italic x own h.0, own_in bold italic t owns h.1)
+own_in bold italic (styled kind opening closing inside t) owns h = (
+  own_in (kind || bold) (not kind || italic) inside (owns_left owns) h.0,
+  own_in bold italic t (owns_left (owns_past inside (owns_left owns))) h.1,
+)
 
 page_rest : (ps qs : List Part) → ArePageParts (ps ++ qs) → ArePageParts qs
 page_rest [] qs h = h
@@ -138,15 +144,6 @@ some_page : (ps : List Part) → AreSomeOfPage ps → ArePageParts ps
 some_page [] h = absurd h
 some_page (p ∷ ps) h = h
 
-unstyled_rest : (ps qs : List Part) → AreUnstyledParts (ps ++ qs) → AreUnstyledParts qs
-unstyled_rest [] qs h = h
-unstyled_rest (loose k o b ∷ ps) qs h = unstyled_rest ps qs h
-unstyled_rest (node (inner k opening ts closing) ∷ ps) qs h = unstyled_rest ps qs h.1
-
-style_unstyled : (j : ℕ) (kind : Bool) (ps qs : List Part) → AreUnstyledParts (node (style_of (Some j) kind ps) ∷ qs) → ⊥
-style_unstyled j true ps qs h = h.0
-style_unstyled j false ps qs h = h.0
-
 unstyled_node : (t : ItemTree) → IsUnstyled t → AreUnstyledParts (node t ∷ [])
 unstyled_node (inner h opening ts closing) u = (u, tt)
 
@@ -154,29 +151,46 @@ unstyled_node (inner h opening ts closing) u = (u, tt)
 round_plain : (own : List Item) → IsRoundCalls own → AreUnstyledParts (line_parts own)
 round_plain own r = subst AreUnstyledParts (sym r.is) (unstyled_node r.tree r.plain)
 
--- nor has what is given without one
-nested_plain : (bold italic : Bool) (j : ℕ) (t : GivenContent) → AreNestedGiven false false t → AreUnstyledParts (given_parts j t) → AreNestedGiven bold italic t
-nested_plain bold italic j given_end k h = tt
-nested_plain bold italic j (given_sign (character b) t) k h = nested_plain bold italic j t k h
-nested_plain bold italic j (given_sign (form r own) t) k h = (k.0, nested_plain bold italic j t k.1 (unstyled_rest (line_parts own) (given_parts j t) h))
-nested_plain bold italic j (given_style kind inside t) k h = absurd (style_unstyled j kind (given_parts j inside) (given_parts j t) h)
+-- nor has what is given a style in one of its kind, where none comes into one
+nested_other : (b i bold italic : Bool) (j : ℕ) (t : GivenContent) → AreNestedGiven b i t → PartsNestIn bold italic (given_parts j t)
+    → AreNestedGiven (b || bold) (i || italic) t
+nested_other b i bold italic j given_end k h = tt
+nested_other b i bold italic j (given_sign (character c) t) k h = nested_other b i bold italic j t k h
+nested_other b i bold italic j (given_sign (form r own) t) k h =
+    (k.0, nested_other b i bold italic j t k.1 (nest_rest bold italic (line_parts own) (given_parts j t) h))
+nested_other b i bold italic j (given_style true inside t) k h = (
+  neither b bold k.0 h.0.0,
+  k.1,
+  k.2,
+  nested_other true i bold italic j inside k.3 (nest_parts bold italic (given_parts j inside) h.0.1),
+  k.4,
+  nested_other b i bold italic j t k.5 h.1,
+)
+nested_other b i bold italic j (given_style false inside t) k h = (
+  neither i italic k.0 h.0.0,
+  k.1,
+  k.2,
+  nested_other b true bold italic j inside k.3 (nest_parts bold italic (given_parts j inside) h.0.1),
+  k.4,
+  nested_other b i bold italic j t k.5 h.1,
+)
 
-nested_in : (bold italic : Bool) (x : Thing) (own : List Item) (g : IsGift x own) (f : IsFlat x.role) → IsIn (bold || italic) x own
+nested_in : (bold italic : Bool) (x : Thing) (own : List Item) (g : IsGift x own) (f : IsFlat x.role) → IsIn bold italic x own
     → AreNestedGiven bold italic (g.nested f).content
 nested_in bold italic x own g f h = by bold italic h
   where
     line : line_parts own ≡ given_parts g.call (g.nested f).content
     line = ap line_parts g.is ∙ signs_line g.call g.signs (g.nested f) g.are
 
-    within : (b i : Bool) → IsOwnAt true x own → AreNestedGiven b i (g.nested f).content
-    within b i (inl k) = nested_plain b i g.call (g.nested f).content (g.nested f).nested (subst AreUnstyledParts line k.2)
+    within : (b i : Bool) → IsOwnAt b i x own → AreNestedGiven b i (g.nested f).content
+    within b i (inl k) = nested_other false false b i g.call (g.nested f).content (g.nested f).nested (subst (PartsNestIn b i) line k.2)
     within b i (inr (inl k)) = nested_within b i g.call (g.nested f).content (g.nested f).nested (subst ArePageParts line (some_page (line_parts own) k))
-    within b i (inr (inr r)) = nested_plain b i g.call (g.nested f).content (g.nested f).nested (subst AreUnstyledParts line (round_plain own r))
+    within b i (inr (inr r)) = nested_other false false b i g.call (g.nested f).content (g.nested f).nested (subst (PartsNestIn b i) line (plain_nests b i (line_parts own) (round_plain own r)))
 
-    by : (b i : Bool) → IsIn (b || i) x own → AreNestedGiven b i (g.nested f).content
-    by false false k = (g.nested f).nested
+    by : (b i : Bool) → IsIn b i x own → AreNestedGiven b i (g.nested f).content
     by true i k = within true i k
     by false true k = within false true k
+    by false false k = (g.nested f).nested
 
 any_read : (bold italic next any : Bool) (us vs : List Segment) (ps : List Part) → (any ≡ false → next ≡ false) → NestRead bold italic next us vs ps
     → NestRead bold italic any us vs ps
@@ -218,7 +232,7 @@ end_read bold italic s before after owns h vs r =
     (subst (λ us. NestRead bold italic (raw_next s before after) us vs []) (sym r.are) (nothing_read bold italic (raw_next s before after) vs r.first)))))
 
 styled_read : (line : Bool) (s : Setting) (bold italic : Bool) (t : StyledContent) (before after : List ContentSign) (owns : List (List Item)) (vs : List Segment)
-    (h : AreGiven (signs_before t after) owns) → AreNested bold italic t → AreIn (bold || italic) t owns → MayEnd (bold || italic) line vs → IsTail vs
+    (h : AreGiven (signs_before t after) owns) → AreNested bold italic t → AreIn bold italic t owns → MayEnd (bold || italic) line vs → IsTail vs
     → RestRead s (signs_past t before) after (owns_past t owns) (given_behind t after owns h) vs
     → Read bold italic (quote_next s before (signs_before t after)) (line_cut_of s before (signs_before t after) owns h) (line_with s before (signs_before t after) owns) vs
     (styled_with line s before t after owns)
@@ -281,8 +295,7 @@ styled_read line s bold italic (styled kind opening closing inside t) before aft
     let a : NestRead (kind || bold) (not kind || italic) false (cut_line first_cut (line_with s first held inner)) (mark_segments kind ++ nest_segments b.nest vs) ps =
     subst (λ (v : Bool). NestRead (kind || bold) (not kind || italic) v (cut_line first_cut (line_with s first held inner)) (mark_segments kind ++ nest_segments b.nest vs) ps)
     (after_delimiter s kind opening before held)
-    (styled_read false s (kind || bold) (not kind || italic) inside first closes inner (mark_segments kind ++ nest_segments b.nest vs) given_in k.1
-    (subst (λ (v : Bool). AreIn v inside inner) (sym (within_style kind bold italic)) w.0)
+    (styled_read false s (kind || bold) (not kind || italic) inside first closes inner (mark_segments kind ++ nest_segments b.nest vs) given_in k.1 w.0
     (λ e. let no : true ≡ false = sym (within_style kind bold italic) ∙ e in cc) (inr (marks_first None kind (nest_segments b.nest vs))) end) in
     let cut : Cut = add_node (own_form in_line (map glyph_of (node_items (mark_source kind)))) (length (map glyph_of (node_items (mark_source kind)))) first_cut in
     subst (λ (d : Cut). Read bold italic (quote_next s before (delimiter kind opening ∷ held)) d (line_with s before (delimiter kind opening ∷ held) owns) vs
@@ -307,7 +320,7 @@ line_end s before owns h = record {
   first = λ z. refl;
 }
 
-pub line_nest : (s : Setting) (before : List ContentSign) (t : StyledContent) (owns : List (List Item)) (h : AreGiven (signs_before t []) owns) → AreNested false false t → AreIn false t owns
+pub line_nest : (s : Setting) (before : List ContentSign) (t : StyledContent) (owns : List (List Item)) (h : AreGiven (signs_before t []) owns) → AreNested false false t → AreIn false false t owns
     → Read false false (quote_next s before (signs_before t [])) (line_cut_of s before (signs_before t []) owns h) (line_with s before (signs_before t []) owns) []
     (styled_with true s before t [] owns)
 line_nest s before t owns h k w =
@@ -318,7 +331,7 @@ pub line_whole : (s : Setting) (before : List ContentSign) (last : List Item) (s
 line_whole s before last signs owns h m = ap (cuts in_line false 0) (line_is s before signs owns) ∙ line_cuts_are s before last signs owns (all_gifts signs owns h) m
 
 pub called_line : (s : Setting) (before : List ContentSign) (last : List Item) (t : StyledContent) (owns : List (List Item)) → AreGiven (signs_before t []) owns
-    → AreNested false false t → AreIn false t owns → AllMeetWith s before last (signs_before t []) owns → line_parts (line_with s before (signs_before t []) owns) ≡ styled_with true s before t [] owns
+    → AreNested false false t → AreIn false false t owns → AllMeetWith s before last (signs_before t []) owns → line_parts (line_with s before (signs_before t []) owns) ≡ styled_with true s before t [] owns
 called_line s before last t owns h k w m =
     let signs : List ContentSign = signs_before t [] in
     let c : Cut = line_cut_of s before signs owns h in

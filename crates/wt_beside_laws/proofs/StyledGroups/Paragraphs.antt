@@ -100,7 +100,7 @@ meet_behind s before last (styled kind opening closing inside t) after owns h m 
     meet_behind s (delimiter kind closing ∷ signs_past inside first) c.last t after (owns_left behind) (past_mark kind closing signs behind given_end) c.meet
 
 later_are : (s : Setting) (before : List ContentSign) (last : List Item) (t : StyledContent) (owns : List (List Item)) → AreGiven (signs_before t []) owns
-    → AreNested false false t → AreIn false t owns → AllMeetWith s before last (signs_before t []) owns → after_breaks (later_with s before (signs_before t []) owns) ≡ later_parts s before t owns
+    → AreNested false false t → AreIn false false t owns → AllMeetWith s before last (signs_before t []) owns → after_breaks (later_with s before (signs_before t []) owns) ≡ later_parts s before t owns
 later_are s before last finished owns h k w m = refl
 later_are s before last (sign (letter c) t) owns h k w m =
     let signs : List ContentSign = signs_before t [] in
@@ -164,7 +164,7 @@ all_joined s before (styled kind opening closing inside t) owns h =
     append_assoc guard (own ∷ styled_with true s last t [] (owns_left behind)) (later_parts s last t (owns_left behind))
     ∙ ap (λ ps. guard ++ (own ∷ ps)) (all_joined s last t (owns_left behind) (past_mark kind closing signs behind given_end))
 
-pub lines_joined : (s : Setting) (t : StyledContent) (owns : List (List Item)) → AreGiven (signs_in t) owns → AreNested false false t → AreIn false t owns
+pub lines_joined : (s : Setting) (t : StyledContent) (owns : List (List Item)) → AreGiven (signs_in t) owns → AreNested false false t → AreIn false false t owns
     → AllMeetWith s [] [] (signs_in t) owns
     → joined_parts (lines_with s (signs_in t) owns) ≡ styled_with false s [] t [] owns
 lines_joined s t owns h k w m =
@@ -186,4 +186,4 @@ given_unled s signs owns w v h =
 
 pub styled_called_parts : (s : Setting) (t : StyledContent) (owns : List (List Item)) → IsStyledCalled s t owns
     → joined_parts (lines (items_with s [] (signs_in t) owns)) ≡ styled_with false s [] t [] owns
-styled_called_parts s t owns h = ap joined_parts (lines_from s [] (signs_in t) owns h.given) ∙ lines_joined s t owns h.given h.nested (own_in false t owns h.own) h.meet
+styled_called_parts s t owns h = ap joined_parts (lines_from s [] (signs_in t) owns h.given) ∙ lines_joined s t owns h.given h.nested (own_in false false t owns h.own) h.meet

@@ -107,11 +107,11 @@ style_alike calls kind ps h t =
 -- ---- its nodes in the page
 
 pub styled_children : (calls : List OuterCall) (s : Setting) (t : StyledContent) (owns : List (List Item)) → AreGiven (signs_in t) owns → AreNested false false t
-    → AreOwnAt false t owns
+    → AreOwnAt false false t owns
     → plains_before (all_cut_texts (pieces_in_page calls (call_pieces (children (styled_with false s [] t [] owns))))) ended ≡ styled_called_shown t owns ended
 styled_children calls s t owns h n w =
     shown_in_page calls (styled_with false s [] t [] owns) ended
-    (styled_each (IsShownAlike calls) (λ qs g. as_shown calls qs g) (λ u r e. inr (deep_round u r, round_alike calls u r)) s false false false [] t [] owns h n w (λ kind qs g a. style_alike calls kind qs g a))
+    (styled_each (IsShownAlike calls) (λ qs g. as_shown calls qs g) (λ u r e. inr (deep_round u r, round_alike calls u r)) s false false [] t [] owns h n w (λ kind qs g a. style_alike calls kind qs g a))
     (styled_texts s false false [] t [] owns h n)
     ∙ styled_show s false false [] t [] owns ended h n
 

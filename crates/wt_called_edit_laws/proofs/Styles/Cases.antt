@@ -259,7 +259,7 @@ edit_of = record {
   are = ((are_letters.0, tt), (tt, ((are_letters.1, tt), tt)));
   calm = ((tt, tt), (tt, (tt, tt)));
   new = (((λ e. refl), tt), (refl, refl, ((λ e. refl), tt), tt));
-  free = (tt, tt);
+  free = (tt, (tt, tt, tt));
   fits = inr (inl refl);
 }
 

@@ -182,24 +182,24 @@ group_there pages all i t g u rest more h f none own held later =
     (groups_call all i more (subst (λ (ys : List Item). AreGivenBy i (line_parts ys)) (sym is) gives.inside) (subst (GivesSigns i) (sym is) gives) own
     (past_first i (held_parts more) held) later)
 
-pub groups_styled : (pages : Pages) (all : List Item) (i : ℕ) (s : Setting) (within bold italic : Bool) (before : List ContentSign) (t : StyledContent)
+pub groups_styled : (pages : Pages) (all : List Item) (i : ℕ) (s : Setting) (bold italic : Bool) (before : List ContentSign) (t : StyledContent)
     (after : List ContentSign) → AreStyledThings pages (signs_before t after) → AreNested bold italic t
-    → AreOwnAt within t (owns_in pages i (signs_before t after)) → AreLastOf all i (items_with s before (signs_before t after) (owns_in pages i (signs_before t after)))
+    → AreOwnAt bold italic t (owns_in pages i (signs_before t after)) → AreLastOf all i (items_with s before (signs_before t after) (owns_in pages i (signs_before t after)))
     → AreGroups all (call_pieces (children (styled_with false s before t after (owns_in pages i (signs_before t after)))))
-groups_styled pages all i s within bold italic before finished after h k o f =
+groups_styled pages all i s bold italic before finished after h k o f =
     let ps : List Part = parts Text (guard_items (is_guarded s before after)) in
     subst (λ (qs : List Part). AreGroups all (call_pieces (children qs))) (append-nil ps)
     (groups_page all ps [] (guard_parts (is_guarded s before after)) (no_groups all))
-groups_styled pages all i s within bold italic before (sign (letter c) t) after h k o f =
+groups_styled pages all i s bold italic before (sign (letter c) t) after h k o f =
     let signs : List ContentSign = signs_before t after in
     let e : Bool = is_escaped s.within s.place before c signs in
     let u : Bool = is_guarded s before (letter c ∷ signs) in
     let more : List Part = styled_with false s (letter c ∷ before) t after (owns_in pages i signs) in
     groups_page all (parts Text (guard_items u)) (parts Text (letter_items e c) ++ more) (guard_parts u)
     (groups_page all (parts Text (letter_items e c)) more (letter_parts e c)
-    (groups_styled pages all i s within bold italic (letter c ∷ before) t after h k.1 o
+    (groups_styled pages all i s bold italic (letter c ∷ before) t after h k.1 o
     (last_letter all i c u e (items_with s (letter c ∷ before) signs (owns_in pages i signs)) f)))
-groups_styled pages all i s within bold italic before (sign (thing x) t) after h k o f =
+groups_styled pages all i s bold italic before (sign (thing x) t) after h k o f =
     let signs : List ContentSign = signs_before t after in
     let u : Bool = is_guarded s before (thing x ∷ signs) in
     let next : ℕ = i + calls_in pages x.source in
@@ -207,7 +207,7 @@ groups_styled pages all i s within bold italic before (sign (thing x) t) after h
     let more : List Part = styled_with false s (thing x ∷ before) t after (owns_in pages next signs) in
     let rest : List Item = items_with s (thing x ∷ before) signs (owns_in pages next signs) in
     let later : AreGroups all (call_pieces (children more)) =
-    groups_styled pages all next s within bold italic (thing x ∷ before) t after h.1 k.1 o.1 (last_thing pages all i x u rest f) in
+    groups_styled pages all next s bold italic (thing x ∷ before) t after h.1 k.1 o.1 (last_thing pages all i x u rest f) in
     groups_page all (parts Text (guard_items u)) (line_parts own ++ more) (guard_parts u)
     (elim (call_or_not (is_call x.role)) [
       | inr e ↦ elim (own_some pages i x h.0 k.0 e) [
@@ -219,12 +219,12 @@ groups_styled pages all i s within bold italic before (sign (thing x) t) after h
           let some : 0 < calls_in pages x.source = has_call pages i group.0 x.source group.1 in
           let less : i < next = omega (arith, some) in
           let own_pieces : ArePieceNodes more =
-          styled_each IsPieceNode (λ qs g. as_pieces qs g) (λ u r z. inr (deep_round u r)) s within bold italic (thing x ∷ before) t after (owns_in pages next signs)
+          styled_each IsPieceNode (λ qs g. as_pieces qs g) (λ u r z. inr (deep_round u r)) s bold italic (thing x ∷ before) t after (owns_in pages next signs)
           (all_given pages next signs h.1) k.1 o.1 (λ kind qs g a. inr (style_round kind qs)) in
           group_there pages all i x group.0 u rest more group.1 f (all_before pages next i s (thing x ∷ before) signs less) own_pieces
           (later_styled pages next i s bold italic (thing x ∷ before) t after h.1 k.1 less) later
     ])
-groups_styled pages all i s within bold italic before (styled kind opening closing inside t) after h k o f =
+groups_styled pages all i s bold italic before (styled kind opening closing inside t) after h k o f =
     let first : List ContentSign = delimiter kind opening ∷ before in
     let past : List ContentSign = signs_past inside first in
     let last : List ContentSign = delimiter kind closing ∷ past in
@@ -243,9 +243,9 @@ groups_styled pages all i s within bold italic before (styled kind opening closi
     let same : owns_past inside owns ≡ owns_in pages n closes = past_as pages j inside closes in
     let ps : List Part = styled_with false s first inside closes owns in
     let u : Bool = is_guarded s before (delimiter kind opening ∷ signs_before inside closes) in
-    let out : AreOwnAt within t (owns_in pages m signs) = subst (λ (os : List (List Item)). AreOwnAt within t (owns_left os)) same o.1 in
+    let out : AreOwnAt bold italic t (owns_in pages m signs) = subst (λ (os : List (List Item)). AreOwnAt bold italic t (owns_left os)) same o.1 in
     let qs : List Part = styled_with false s last t after (owns_left (owns_past inside owns)) in
     let later : AreGroups all (call_pieces (children qs)) =
     subst (λ (os : List (List Item)). AreGroups all (call_pieces (children (styled_with false s last t after (owns_left os))))) (sym same)
-    (groups_styled pages all m s within bold italic last t after (each_behind pages inside closes h.1).1 k.2 out c) in
+    (groups_styled pages all m s bold italic last t after (each_behind pages inside closes h.1).1 k.2 out c) in
     groups_page all (parts Text (guard_items u)) (node (style_tree kind ps) ∷ qs) (guard_parts u) (groups_node all (style_tree kind ps) qs (inr (style_round kind ps)) later)

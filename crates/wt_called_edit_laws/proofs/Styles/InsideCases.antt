@@ -1,5 +1,5 @@
 -- Worked case: the page's paragraph `'''x{{t}}'''y`, where `Template:T` is a word: a call in bold, what is sent for it, and what it makes.
-use Rattle.std.proofs.Common.{◌≡◌, ◌<◌, inl, inr, ℕ, zero, suc, false, Some, None, List, [], ◌∷◌, arith, refl, sym, ap, ◌∙◌, subst}
+use Rattle.std.proofs.Common.{◌≡◌, ◌<◌, inl, inr, ℕ, zero, suc, false, true, Some, None, List, [], ◌∷◌, arith, refl, sym, ap, ◌∙◌, subst}
 use Rattle.std.specs.Prelude.{codes}
 use Rattle.std.specs.Str.{is_utf8, chars, IsUtf8}
 use Rattle.std.specs.Str.Lossy.{utf8_valid_len}
@@ -60,13 +60,13 @@ use Rattle.wt_text_edit_laws.specs.TextBlocks.{a_paragraph}
 use Rattle.wt_beside_laws.specs.ContentEdits.{new_content}
 use Rattle.wt_beside_laws.proofs.Groups.Cases.{a_word, beside_letters, gives_b, gives_char}
 use Rattle.wt_beside_laws.specs.Shown.{parts_shown_at}
-use Rattle.wt_beside_laws.specs.StyledCalls.{AreUnstyledParts}
+use Rattle.wt_beside_laws.specs.StyledCalls.{PartsNestIn}
 use Rattle.wt_called_edit_laws.specs.CalledEdits.{page_things, ShowsAsGiven, MakesContentIn}
 use Rattle.wt_called_edit_laws.specs.InPieces.{AreInPieces}
 use Rattle.wt_called_edit_laws.specs.PageThings.{ArePageThings, thing_sources}
 use Rattle.wt_called_edit_laws.specs.SentAsIs.{as_sent}
 use Rattle.wt_called_edit_laws.specs.Settled.{settled}
-use Rattle.wt_called_edit_laws.specs.StyledCallEdits.{AreNodesBeside, AreOwnThings, GivesPlain, IsBesideStyles, IsStyledCallEdit}
+use Rattle.wt_called_edit_laws.specs.StyledCallEdits.{AreNodesBeside, AreOwnThings, GivesNested, IsBesideStyles, IsStyledCallEdit}
 use Rattle.wt_called_edit_laws.specs.WrittenAnew.{StayButForOthers}
 use Rattle.wt_called_edit_laws.proofs.Beside.Cases.{shows_word}
 use Rattle.wt_called_edit_laws.proofs.Whole.OfCall.{is_same, of_here}
@@ -196,16 +196,16 @@ pub given_word : (i : ℕ) → of_call i (given i) ≡ char (Some i) 98 ∷ []
 given_word i =
     of_here i (char (Some i) 98) (char None 39 ∷ char None 39 ∷ char None 39 ∷ char None 121 ∷ []) (is_same (Some i) i refl)
 
--- and has no bold or italic of its own
-plain : (i : ℕ) → AreUnstyledParts (line_parts (char (Some i) 98 ∷ []))
+-- and has no bold
+nests : (i : ℕ) → PartsNestIn true false (line_parts (char (Some i) 98 ∷ []))
 unfolding context_parts chunks segments loose_segments tiles shapes closes tile_at link_or_url link_at ext_link_at bare_url_at scheme_len tag_tile tag_at switch_at
     with_styles style_tree_of toggles_of toggle_at opens_tag closes_tag
-plain i = tt
+nests i = tt
 
-gives_plain : GivesPlain a_word (flat group)
-gives_plain = λ i.
-    subst (λ (q : List ℕ). AreUnstyledParts (line_parts (part_items a_word i q))) (sym group_is.0)
-    (subst (λ (xs : List Item). AreUnstyledParts (line_parts xs)) (sym (gives_char i)) (plain i))
+gives_nested : GivesNested a_word true false (flat group)
+gives_nested = λ i.
+    subst (λ (q : List ℕ). PartsNestIn true false (line_parts (part_items a_word i q))) (sym group_is.0)
+    (subst (λ (xs : List Item). PartsNestIn true false (line_parts xs)) (sym (gives_char i)) (nests i))
 
 are_nodes : AreNodesBeside a_word (children_of block)
 unfolding label_at context_parts chunks segments loose_segments tiles shapes closes tile_at link_or_url link_at ext_link_at bare_url_at scheme_len
@@ -217,7 +217,7 @@ are_nodes =
     let b : IsUtf8 (codes "y") = (codes "y", (refl, refl)) in (
       (
         refl,
-        (((λ e. absurd (cc)), tt), (((λ e. gives_plain), (((λ e. absurd (cc)), tt), tt)), tt)),
+        (((λ e. absurd (cc)), tt), (((λ e. gives_nested), (((λ e. absurd (cc)), tt), tt)), tt)),
         (
           (a, record { inline = refl; shows = λ n. absurd n }),
           (record { inline = refl; shows = λ n. group_shows }, tt),
@@ -273,7 +273,7 @@ edit_of = record {
   are = ((are_letters.0, (tt, tt)), (are_letters.1, tt));
   calm = ((tt, tt), (tt, tt));
   new = (((λ e. refl), tt), ((λ e. refl), tt));
-  free = tt;
+  free = (tt, tt);
   fits = inr (inl refl);
 }
 

@@ -49,7 +49,7 @@ use Rattle.wt_called_edit_laws.proofs.Beside.Making.{IsSettledIn, block_face, bl
 use Rattle.wt_called_edit_laws.proofs.Headings.FromPage.{seen_stay}
 use Rattle.wt_called_edit_laws.proofs.Styles.Faults.{characters_sent, no_fault}
 use Rattle.wt_called_edit_laws.proofs.Styles.Found.{AreFound, nodes_found}
-use Rattle.wt_called_edit_laws.proofs.Styles.Free.{PlainWithin, pieces_free}
+use Rattle.wt_called_edit_laws.proofs.Styles.Free.{NestsWithin, pieces_free}
 use Rattle.wt_called_edit_laws.proofs.Styles.Headings.{seen_among, styled_head_anywhere, styled_head_letters, styled_head_shows, styled_head_takes, styled_head_whole, styled_head_written}
 use Rattle.wt_called_edit_laws.proofs.Styles.Lined.{own_calls, styled_letters, styled_takes}
 use Rattle.wt_called_edit_laws.proofs.Styles.Sent.{HaveUtf8, pieces_inline, pieces_sent, pieces_sound, pieces_utf8}
@@ -96,7 +96,7 @@ pub record IsSentWell (pages : Pages) (k : TextBlock) (block : Tree) (ps : Piece
   characters : AreCharacters (signs_in (sent_for block ps))
   each : AreStyledThings pages (signs_in (sent_for block ps))
   nests : AreNested false false (sent_for block ps)
-  free : PlainWithin pages false (sent_for block ps)
+  free : NestsWithin pages false false (sent_for block ps)
   meet : (i : ℕ) → AllMeetWith (setting k block) [] [] (signs_in (sent_for block ps)) (owns_in pages i (signs_in (sent_for block ps)))
 
 pub sent_well : (pages : Pages) (k : TextBlock) (q : List ℕ) (block : Tree) (ps : Pieces) → IsSettledIn pages k q block → IsBesideStyles pages k q block

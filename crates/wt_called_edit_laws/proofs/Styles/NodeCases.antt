@@ -46,7 +46,7 @@ use Rattle.wt_text_edit_laws.specs.NoCalls.{AreUnbraced}
 use Rattle.wt_text_edit_laws.specs.ParagraphParts.{joined_parts, para_with}
 use Rattle.wt_beside_laws.proofs.Groups.Cases.{a_word, beside_letters, gives_b, gives_char}
 use Rattle.wt_beside_laws.specs.Shown.{parts_shown_at}
-use Rattle.wt_beside_laws.specs.StyledCalls.{AreUnstyledParts}
+use Rattle.wt_beside_laws.specs.StyledCalls.{PartsNestIn}
 use Rattle.wt_called_edit_laws.specs.Settled.{settled}
 use Rattle.wt_called_edit_laws.proofs.Beside.Cases.{shows_word}
 use Rattle.wt_guards.specs.declared.role.Role.TheVariants.{Link}
@@ -67,7 +67,7 @@ use Rattle.wt_beside_laws.specs.Nodes.{IsNode, OpensNoPair}
 use Rattle.wt_called_edit_laws.specs.BlockNodes.{AreBlockNodes, AreOnes, ArePiecesMet, IsEndedCall, IsOfNodes, IsOneCall, IsOneNode, IsUnbraced, ShowsItself, all_node_pieces}
 use Rattle.wt_called_edit_laws.specs.CalledEdits.{ShowsAsGiven, page_things}
 use Rattle.wt_called_edit_laws.specs.PageThings.{AllMeetLater}
-use Rattle.wt_called_edit_laws.specs.StyledCallEdits.{GivesPlain}
+use Rattle.wt_called_edit_laws.specs.StyledCallEdits.{GivesNested}
 use Rattle.wt_called_edit_laws.specs.WholeContents.{AreShutParts}
 use Rattle.wt_called_edit_laws.proofs.Written.Cases.{call_part, call_utf8}
 use Rattle.wt_lines.specs.Lines.{IsUnbroken}
@@ -198,18 +198,18 @@ group_shows = λ i rest.
     ∙ shows_word i rest
     ∙ sym (group_is.1 rest)
 
--- and has no bold or italic of its own
-plain : (i : ℕ) → AreUnstyledParts (line_parts (char (Some i) 98 ∷ []))
+-- and has no bold
+nests : (i : ℕ) → PartsNestIn true false (line_parts (char (Some i) 98 ∷ []))
 unfolding context_parts chunks segments loose_segments tiles shapes closes tile_at link_or_url link_at ext_link_at bare_url_at scheme_len
     tag_tile tag_at switch_at with_styles style_tree_of toggles_of toggle_at opens_tag closes_tag place_of since next bold_ends_later effect_on
     is_bold_outside_at turn_at nested_tree link_head link_in target_of read_text is_allowed is_forbidden is_good has_signature is_step begins_with_step holds_step ends_with_step
     name_of image is_called namespace_named prefix_of full_name_of whole_in cut_namespace title_in utf8_valid_len is_utf8 chars encode link_to
-plain i = tt
+nests i = tt
 
-gives_plain : GivesPlain a_word (flat group)
-gives_plain = λ i.
-    subst (λ (q : List ℕ). AreUnstyledParts (line_parts (part_items a_word i q))) (sym group_is.0)
-    (subst (λ (xs : List Item). AreUnstyledParts (line_parts xs)) (sym (gives_char i)) (plain i))
+gives_nested : GivesNested a_word true false (flat group)
+gives_nested = λ i.
+    subst (λ (q : List ℕ). PartsNestIn true false (line_parts (part_items a_word i q))) (sym group_is.0)
+    (subst (λ (xs : List Item). PartsNestIn true false (line_parts xs)) (sym (gives_char i)) (nests i))
 
 -- ---- the link
 
@@ -306,7 +306,7 @@ nodes_here =
     let b : IsUtf8 (codes " ") = (codes " ", (refl, refl)) in (
       (
         refl,
-        (((λ e. absurd (cc)), tt), (((λ e. gives_plain), (((λ e. absurd (cc)), tt), tt)), tt)),
+        (((λ e. absurd (cc)), tt), (((λ e. gives_nested), (((λ e. absurd (cc)), tt), tt)), tt)),
         marks_calm,
         ((a, letter_calm), (inl (refl, group_shows), tt)),
         marks_calm,

@@ -1,5 +1,5 @@
 -- What is sent for a paragraph with calls and styles in it: texts, nodes as they are in the page, groups among them, and styles of the page and new ones.
-use Rattle.std.proofs.Common.{◌≡◌, inl, inr, ℕ, Bool, false, Option, List, [], ◌∷◌, ap, refl, subst, sym, ◌∙◌}
+use Rattle.std.proofs.Common.{◌≡◌, inl, inr, ℕ, Bool, false, not, Option, List, [], ◌∷◌, ap, refl, subst, sym, ◌∙◌}
 use Rattle.std.specs.Str.{IsUtf8}
 use Rattle.wt_tree.specs.EditShapes.{edit_shape}
 use Rattle.wt_tree.specs.Tree.{Label, Tree, Trees, label, more, none, tree}
@@ -22,19 +22,23 @@ use Rattle.wt_typed_blocks.specs.Sent.{AllStandAsIs, StandsAsIs}
 use Rattle.wt_beside_laws.proofs.Styled.SentFaults.{AreSound, IsSound, SoundBy, new_sound, not_replaced, text_known}
 use Rattle.wt_beside_laws.proofs.Styled.SentNests.{IsStyleForm, style_stands, text_shows}
 use Rattle.wt_beside_laws.specs.FlatPages.{AreNodesAndTexts}
+use Rattle.wt_beside_laws.specs.NewStyles.{is_bold, is_bold_form}
 use Rattle.wt_beside_laws.specs.SentPieces.{IsNodeForm}
 use Rattle.wt_beside_laws.specs.SentStyled.{AreStyledSent, IsStyledBy, IsStyledSent}
 use Rattle.wt_called_edit_laws.specs.FoundGroups.{IsFoundAs, HasFoundGroups, HaveFoundGroups}
 use Rattle.wt_called_edit_laws.proofs.Beside.Sent.{as_kept}
 use Rattle.wt_called_edit_laws.proofs.Styles.Found.{AreFound, FoundBy, IsFound}
-use Rattle.wt_called_edit_laws.specs.StyledCallEdits.{AreNodesBeside, IsBesideBy, IsNodeBeside, PlainGroups}
+use Rattle.wt_called_edit_laws.specs.StyledCallEdits.{AreNodesBeside, IsBesideBy, IsNodeBeside, NestedGroups}
 
 -- ---- what is in a style of the page
 
-pub style_beside : (pages : Pages) (l : Label) (ts : Trees) → IsStyle l.kind → IsNodeBeside pages (tree l ts) → PlainGroups pages ts × AreNodesBeside pages ts
+pub style_beside : (pages : Pages) (l : Label) (ts : Trees) → IsStyle l.kind → IsNodeBeside pages (tree l ts)
+    → NestedGroups pages (is_bold l) (not (is_bold l)) ts × AreNodesBeside pages ts
 style_beside pages l ts h b =
-    of_style (λ k. IsBesideBy (edit_shape k).inline pages l ts (AreNodesBeside pages ts) → PlainGroups pages ts × AreNodesBeside pages ts) l.kind h
-    (λ d. (d.1, d.2)) (λ d. (d.1, d.2)) b
+    of_style
+    (λ k. IsBesideBy (edit_shape k).inline pages l ts (AreNodesBeside pages ts)
+    → NestedGroups pages (is_bold_form (edit_shape k).inline) (not (is_bold_form (edit_shape k).inline)) ts × AreNodesBeside pages ts)
+    l.kind h (λ d. (d.1, d.2)) (λ d. (d.1, d.2)) b
 
 pub style_found : (ks : List Kept) (l : Label) (ts : Trees) → IsStyle l.kind → IsFound ks (tree l ts) → IsFoundAs ks l ts × AreFound ks ts
 style_found ks l ts h f =

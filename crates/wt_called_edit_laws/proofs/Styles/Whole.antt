@@ -216,27 +216,27 @@ style_has : (kind : Bool) (qs : List Part) → EachNode HasIfPage qs → AreText
 style_has true qs h t = λ e. let r = children_have qs (parts_have qs h t (inside_page true qs e)) in (refl, r.0)
 style_has false qs h t = λ e. let r = children_have qs (parts_have qs h t (inside_page false qs e)) in (refl, r.0)
 
-styled_shut : (pages : Pages) (i : ℕ) (s : Setting) (within bold italic : Bool) (before : List ContentSign) (t : StyledContent) (after : List ContentSign)
-    → AreStyledThings pages (signs_before t after) → AreNested bold italic t → AreOwnAt within t (owns_in pages i (signs_before t after))
+styled_shut : (pages : Pages) (i : ℕ) (s : Setting) (bold italic : Bool) (before : List ContentSign) (t : StyledContent) (after : List ContentSign)
+    → AreStyledThings pages (signs_before t after) → AreNested bold italic t → AreOwnAt bold italic t (owns_in pages i (signs_before t after))
     → AreShutParts (styled_with false s before t after (owns_in pages i (signs_before t after)))
-styled_shut pages i s within bold italic before finished after h k o = guard_shut (is_guarded s before after)
-styled_shut pages i s within bold italic before (sign (letter c) t) after h k o =
+styled_shut pages i s bold italic before finished after h k o = guard_shut (is_guarded s before after)
+styled_shut pages i s bold italic before (sign (letter c) t) after h k o =
     let signs : List ContentSign = signs_before t after in
     let e : Bool = is_escaped s.within s.place before c signs in
     let owns : List (List Item) = owns_in pages i signs in
     let more_parts : List Part = styled_with false s (letter c ∷ before) t after owns in
     shut_both (parts Text (guard_items (is_guarded s before (letter c ∷ signs)))) (parts Text (letter_items e c) ++ more_parts) (guard_shut (is_guarded s before (letter c ∷ signs)))
     (shut_both (parts Text (letter_items e c)) more_parts (letter_shut e c (λ z. escapable s.within s.place before c signs z))
-    (styled_shut pages i s within bold italic (letter c ∷ before) t after h k.1 o))
-styled_shut pages i s within bold italic before (sign (thing x) t) after h k o =
+    (styled_shut pages i s bold italic (letter c ∷ before) t after h k.1 o))
+styled_shut pages i s bold italic before (sign (thing x) t) after h k o =
     let y : ContentSign = thing x in
     let signs : List ContentSign = signs_before t after in
     let own : List Item = part_items pages i x.source in
     let next : ℕ = i + length (expanded_page pages x.source).outer in
     let more_parts : List Part = styled_with false s (y ∷ before) t after (owns_in pages next signs) in
     shut_both (parts Text (guard_items (is_guarded s before (y ∷ signs)))) (line_parts own ++ more_parts) (guard_shut (is_guarded s before (y ∷ signs)))
-    (shut_both (line_parts own) more_parts (one_shut pages i x h.0 k.0) (styled_shut pages next s within bold italic (y ∷ before) t after h.1 k.1 o.1))
-styled_shut pages i s within bold italic before (styled kind opening closing inside t) after h k o =
+    (shut_both (line_parts own) more_parts (one_shut pages i x h.0 k.0) (styled_shut pages next s bold italic (y ∷ before) t after h.1 k.1 o.1))
+styled_shut pages i s bold italic before (styled kind opening closing inside t) after h k o =
     let closes : List ContentSign = delimiter kind closing ∷ signs_before t after in
     let first : List ContentSign = delimiter kind opening ∷ before in
     let last : List ContentSign = delimiter kind closing ∷ signs_past inside first in
@@ -247,16 +247,16 @@ styled_shut pages i s within bold italic before (styled kind opening closing ins
     let ps : List Part = styled_with false s first inside closes owns in
     let same : owns_past inside owns ≡ owns_in pages (calls_behind pages j inside) closes = past_as pages j inside closes in
     let qs : List Part = styled_with false s last t after (owns_left (owns_past inside owns)) in
-    let shut : AreShutParts ps = styled_shut pages j s true (kind || bold) (not kind || italic) first inside closes h.1 k.1 o.0 in
+    let shut : AreShutParts ps = styled_shut pages j s (kind || bold) (not kind || italic) first inside closes h.1 k.1 o.0 in
     let given : AreGiven held owns = all_given pages j held h.1 in
     let has : EachNode HasIfPage ps =
-    styled_each HasIfPage simple_has (λ u r z e. let no : true ≡ false = sym e ∙ z in absurd (cc)) s true (kind || bold) (not kind || italic) first inside closes owns given k.1 o.0 (λ b us g a. style_has b us g a) in
+    styled_each HasIfPage simple_has (λ u r z e. let no : true ≡ false = sym e ∙ z in absurd (cc)) s (kind || bold) (not kind || italic) first inside closes owns given k.1 o.0 (λ b us g a. style_has b us g a) in
     let texts : AreTexts ps = styled_texts s (kind || bold) (not kind || italic) first inside closes owns given k.1 in
-    let out : AreOwnAt within t (owns_in pages m (signs_before t after)) =
-    subst (λ (os : List (List Item)). AreOwnAt within t (owns_left os)) same o.1 in
+    let out : AreOwnAt bold italic t (owns_in pages m (signs_before t after)) =
+    subst (λ (os : List (List Item)). AreOwnAt bold italic t (owns_left os)) same o.1 in
     let later : AreShutParts qs =
     subst (λ (os : List (List Item)). AreShutParts (styled_with false s last t after (owns_left os))) (sym same)
-    (styled_shut pages m s within bold italic last t after (each_behind pages inside closes h.1).1 k.2 out) in
+    (styled_shut pages m s bold italic last t after (each_behind pages inside closes h.1).1 k.2 out) in
     shut_both (parts Text (guard_items (is_guarded s before (delimiter kind opening ∷ held)))) (node (style_tree kind ps) ∷ qs)
     (guard_shut (is_guarded s before (delimiter kind opening ∷ held)))
     ((λ e. style_shut kind ps (all_shut ps (parts_have ps has texts (inside_page kind ps e)) shut)), later)
@@ -309,14 +309,14 @@ styled_thing_parts n pages calls all i x (inr p) f a =
     let ps : List Part = line_parts (part_items pages i x.source) in
     simple_within n calls all ps (page_given ps (some_of_page ps (put_some pages i x p f)))
 
-styled_parts_in : (pages : Pages) (calls : List OuterCall) (all : List Item) (i : ℕ) (s : Setting) (within bold italic : Bool) (before : List ContentSign) (t : StyledContent) (after : List ContentSign)
-    → AreStyledThings pages (signs_before t after) → AreNested bold italic t → AreOwnAt within t (owns_in pages i (signs_before t after))
+styled_parts_in : (pages : Pages) (calls : List OuterCall) (all : List Item) (i : ℕ) (s : Setting) (bold italic : Bool) (before : List ContentSign) (t : StyledContent) (after : List ContentSign)
+    → AreStyledThings pages (signs_before t after) → AreNested bold italic t → AreOwnAt bold italic t (owns_in pages i (signs_before t after))
     → AreLastOf all i (items_with s before (signs_before t after) (owns_in pages i (signs_before t after)))
     → AreSourcesAt calls i (written_calls pages (signs_before t after))
     → EachNode (IsPartIn (depth bold italic) calls all) (styled_with false s before t after (owns_in pages i (signs_before t after)))
-styled_parts_in pages calls all i s within bold italic before finished after h k o f y =
+styled_parts_in pages calls all i s bold italic before finished after h k o f y =
     let u : Bool = is_guarded s before after in simple_within (depth bold italic) calls all (parts Text (guard_items u)) (guard_own u)
-styled_parts_in pages calls all i s within bold italic before (sign (letter c) t) after h k o f y =
+styled_parts_in pages calls all i s bold italic before (sign (letter c) t) after h k o f y =
     let signs : List ContentSign = signs_before t after in
     let e : Bool = is_escaped s.within s.place before c signs in
     let u : Bool = is_guarded s before (letter c ∷ signs) in
@@ -324,9 +324,9 @@ styled_parts_in pages calls all i s within bold italic before (sign (letter c) t
     let more_parts : List Part = styled_with false s (letter c ∷ before) t after (owns_in pages i signs) in
     each_both P (parts Text (guard_items u)) (parts Text (letter_items e c) ++ more_parts) (simple_within (depth bold italic) calls all (parts Text (guard_items u)) (guard_own u))
     (each_both P (parts Text (letter_items e c)) more_parts (simple_within (depth bold italic) calls all (parts Text (letter_items e c)) (letter_own e c))
-    (styled_parts_in pages calls all i s within bold italic (letter c ∷ before) t after h k.1 o
+    (styled_parts_in pages calls all i s bold italic (letter c ∷ before) t after h k.1 o
     (last_letter all i c u e (items_with s (letter c ∷ before) signs (owns_in pages i signs)) f) y))
-styled_parts_in pages calls all i s within bold italic before (sign (thing x) t) after h k o f y =
+styled_parts_in pages calls all i s bold italic before (sign (thing x) t) after h k o f y =
     let signs : List ContentSign = signs_before t after in
     let u : Bool = is_guarded s before (thing x ∷ signs) in
     let P : ItemTree → Type 0 = λ (v : ItemTree). IsPartIn (depth bold italic) calls all v in
@@ -336,9 +336,9 @@ styled_parts_in pages calls all i s within bold italic before (sign (thing x) t)
     let both = sources_split calls i (expanded_page pages x.source).outer (written_calls pages signs) y in
     each_both P (parts Text (guard_items u)) (own ++ more_parts) (simple_within (depth bold italic) calls all (parts Text (guard_items u)) (guard_own u))
     (each_both P own more_parts (styled_thing_parts (depth bold italic) pages calls all i x h.0 k.0 both.0)
-    (styled_parts_in pages calls all next s within bold italic (thing x ∷ before) t after h.1 k.1 o.1
+    (styled_parts_in pages calls all next s bold italic (thing x ∷ before) t after h.1 k.1 o.1
     (last_thing pages all i x u (items_with s (thing x ∷ before) signs (owns_in pages next signs)) f) both.1))
-styled_parts_in pages calls all i s within bold italic before (styled kind opening closing inside t) after h k o f y =
+styled_parts_in pages calls all i s bold italic before (styled kind opening closing inside t) after h k o f y =
     let first : List ContentSign = delimiter kind opening ∷ before in
     let past : List ContentSign = signs_past inside first in
     let last : List ContentSign = delimiter kind closing ∷ past in
@@ -359,24 +359,24 @@ styled_parts_in pages calls all i s within bold italic before (styled kind openi
     let same : owns_past inside owns ≡ owns_in pages n closes = past_as pages j inside closes in
     let ps : List Part = styled_with false s first inside closes owns in
     let qs : List Part = styled_with false s last t after (owns_left (owns_past inside owns)) in
-    let out : AreOwnAt within t (owns_in pages m signs) = subst (λ (os : List (List Item)). AreOwnAt within t (owns_left os)) same o.1 in
+    let out : AreOwnAt bold italic t (owns_in pages m signs) = subst (λ (os : List (List Item)). AreOwnAt bold italic t (owns_left os)) same o.1 in
     let mark : List OuterCall = (expanded_page pages (mark_source kind)).outer in
     let first_calls = sources_split calls i mark (written_calls pages held) y in
     let last_calls = sources_split calls n mark (written_calls pages signs) (sources_behind pages calls j inside closes first_calls.1) in
     let inner_parts : EachNode (IsPartIn (depth (kind || bold) (not kind || italic)) calls all) ps =
-    styled_parts_in pages calls all j s true (kind || bold) (not kind || italic) first inside closes h.1 k.1 o.0 a first_calls.1 in
+    styled_parts_in pages calls all j s (kind || bold) (not kind || italic) first inside closes h.1 k.1 o.0 a first_calls.1 in
     let style : IsPartIn (depth bold italic) calls all (style_tree kind ps) =
     subst (λ (d : ℕ). IsPartIn d calls all (style_tree kind ps)) (sym (one_deeper kind bold italic k.0)) (inr (
       kind,
       ps,
       refl,
       inner_parts,
-      groups_styled pages all j s true (kind || bold) (not kind || italic) first inside closes h.1 k.1 o.0 a,
-      styled_shut pages j s true (kind || bold) (not kind || italic) first inside closes h.1 k.1 o.0,
+      groups_styled pages all j s (kind || bold) (not kind || italic) first inside closes h.1 k.1 o.0 a,
+      styled_shut pages j s (kind || bold) (not kind || italic) first inside closes h.1 k.1 o.0,
     )) in
     let later : EachNode P qs =
     subst (λ (os : List (List Item)). EachNode P (styled_with false s last t after (owns_left os))) (sym same)
-    (styled_parts_in pages calls all m s within bold italic last t after (each_behind pages inside closes h.1).1 k.2 out c last_calls.1) in
+    (styled_parts_in pages calls all m s bold italic last t after (each_behind pages inside closes h.1).1 k.2 out c last_calls.1) in
     each_both P (parts Text (guard_items u)) (node (style_tree kind ps) ∷ qs) (simple_within (depth bold italic) calls all (parts Text (guard_items u)) (guard_own u)) (style, later)
 
 -- ---- the calls of a node
@@ -394,7 +394,7 @@ shut_things pages (thing x ∷ after) h = calls_both (expanded_page pages x.sour
 
 -- whatever block it is in
 pub groups_of : (pages : Pages) (k : TextBlock) (s : Setting) (t : StyledContent) → AreStyledThings pages (signs_in t) → AreNested false false t
-    → ((i : ℕ) → AreOwnAt false t (owns_in pages i (signs_in t)))
+    → ((i : ℕ) → AreOwnAt false false t (owns_in pages i (signs_in t)))
     → ((i : ℕ) → part_items pages i (spelled s (signs_in t)) ≡ items_with s [] (signs_in t) (owns_in pages i (signs_in t)))
     → ((i : ℕ) → content_parts_of k (part_items pages i (spelled s (signs_in t))) ≡ styled_with false s [] t [] (owns_in pages i (signs_in t)))
     → AreMoved (written_calls pages (signs_in t)) (expanded_page pages (source_of k (spelled s (signs_in t)))).outer → HoldsGroups pages k (spelled s (signs_in t))
@@ -405,13 +405,13 @@ groups_of pages k s t h n own items given calls =
       parts = λ cs i a.
           subst (ArePartsIn cs (part_items pages i q)) (sym (given i))
           (subst (λ (xs : List Item). ArePartsIn cs xs (styled_with false s [] t [] (owns_in pages i signs))) (sym (items i))
-          (styled_parts_in pages cs (items_with s [] signs (owns_in pages i signs)) i s false false false [] t [] h n (own i) (λ j l. refl)
+          (styled_parts_in pages cs (items_with s [] signs (owns_in pages i signs)) i s false false [] t [] h n (own i) (λ j l. refl)
           (sources_before cs i (written_calls pages signs) (expanded_page pages (source_of k q)).outer calls a)));
       groups = λ i.
           subst (λ (ps : List Part). AreGroups (part_items pages i q) (call_pieces (children ps))) (sym (given i))
           (subst (λ (xs : List Item). AreGroups xs (call_pieces (children (styled_with false s [] t [] (owns_in pages i signs))))) (sym (items i))
-          (groups_styled pages (items_with s [] signs (owns_in pages i signs)) i s false false false [] t [] h n (own i) (λ j l. refl)));
-      shut = λ i. subst AreShutParts (sym (given i)) (styled_shut pages i s false false false [] t [] h n (own i));
+          (groups_styled pages (items_with s [] signs (owns_in pages i signs)) i s false false [] t [] h n (own i) (λ j l. refl)));
+      shut = λ i. subst AreShutParts (sym (given i)) (styled_shut pages i s false false [] t [] h n (own i));
       shut_calls = moved_shut (written_calls pages signs) (expanded_page pages (source_of k q)).outer calls (shut_things pages signs h);
     }
 

@@ -31,23 +31,23 @@ use Rattle.wt_beside_laws.specs.Stood.{things}
 use Rattle.wt_beside_laws.specs.Styled.{AreNested, StyledContent, delimiter, finished, mark_source, sign, signs_before, signs_in, styled}
 use Rattle.wt_beside_laws.specs.StyledCalls.{AreOwnAt, IsOfPage, IsOwnAt, IsStyledCalled, IsStyledCalledHeading, owns_left}
 use Rattle.wt_beside_laws.specs.StyledNodes.{IsPut}
-use Rattle.wt_called_edit_laws.proofs.Styles.Free.{PlainWithin}
+use Rattle.wt_called_edit_laws.proofs.Styles.Free.{NestsWithin}
 use Rattle.wt_called_edit_laws.proofs.Styles.Put.{put_items, put_own, put_part, put_read, put_sealed, put_source, put_utf8}
 use Rattle.wt_called_edit_laws.proofs.Styles.Shown.{calls_behind, past_as}
 use Rattle.wt_called_edit_laws.proofs.Styles.Things.{AreStyledThings, IsStyledThing}
 use Rattle.wt_called_edit_laws.proofs.Written.Held.{written_with}
 use Rattle.wt_called_edit_laws.proofs.Written.Signs.{content_written}
-use Rattle.wt_called_edit_laws.specs.StyledCallEdits.{GivesPlain}
+use Rattle.wt_called_edit_laws.specs.StyledCallEdits.{GivesNested}
 use Rattle.wt_called_edit_laws.specs.Written.{AreOwnParts, AreReadThings, IsOwnPart, IsReadThing}
 use Rattle.wt_called_edit_laws.specs.WrittenAnew.{AreUtf8, node_sources}
 
--- Each sign that is no character is a node of the page or is put; styles nest, and a call in one gives none of its own; no call is first or last.
+-- Each sign that is no character is a node of the page or is put; styles nest, and a call in one gives none of its kind; no call is first or last.
 pub record IsStyledWritten (pages : Pages) (s : Setting) (t : StyledContent) : Type 0 where
   pub of_block : s.within ≡ false
   pub characters : AreCharacters (signs_in t)
   pub each : AreStyledThings pages (signs_in t)
   pub nested : AreNested false false t
-  pub free : PlainWithin pages false t
+  pub free : NestsWithin pages false false t
   pub meet : (i : ℕ) → AllMeetWith s [] [] (signs_in t) (owns_in pages i (signs_in t))
   pub some : HasUncalled s [] (signs_in t)
 
@@ -59,7 +59,7 @@ pub record IsStyledInHeading (pages : Pages) (s : Setting) (t : StyledContent) :
   pub characters : AreCharacters (signs_in t)
   pub each : AreStyledThings pages (signs_in t)
   pub nested : AreNested false false t
-  pub free : PlainWithin pages false t
+  pub free : NestsWithin pages false false t
   pub meet : (i : ℕ) → AllMeetWith s [] [] (signs_in t) (owns_in pages i (signs_in t))
   pub end_seen : AllSeenIn pages (things (signs_in t))
 
@@ -203,31 +203,27 @@ own_call pages i x (inr p) e = absurd (no_call p)
     no_call (inl m) = let no : false ≡ true = sym (ap is_call m.1) ∙ e in cc
     no_call (inr w) = let no : false ≡ true = sym (ap is_call w.0) ∙ e in cc
 
-one_own : (pages : Pages) (i : ℕ) (within : Bool) (x : Thing) → IsStyledThing pages x → IsFlat x.role
-    → (within ≡ true → is_call x.role ≡ true → GivesPlain pages x.source) → IsOwnAt within x (part_items pages i x.source)
-one_own pages i true x h f g = elim (call_or_not (is_call x.role)) [
-  | inl e ↦ inl (e, own_call pages i x h e, g refl e i)
-  | inr e ↦ inr (own_some pages i x h f e)
-]
-one_own pages i false x h f g = elim (call_or_not (is_call x.role)) [
-  | inl e ↦ inl (e, own_call pages i x h e)
+one_own : (pages : Pages) (i : ℕ) (bold italic : Bool) (x : Thing) → IsStyledThing pages x → IsFlat x.role
+    → (is_call x.role ≡ true → GivesNested pages bold italic x.source) → IsOwnAt bold italic x (part_items pages i x.source)
+one_own pages i bold italic x h f g = elim (call_or_not (is_call x.role)) [
+  | inl e ↦ inl (e, own_call pages i x h e, g e i)
   | inr e ↦ inr (own_some pages i x h f e)
 ]
 
-pub own_at : (pages : Pages) (i : ℕ) (within bold italic : Bool) (t : StyledContent) (after : List ContentSign) → AreStyledThings pages (signs_before t after)
-    → AreNested bold italic t → PlainWithin pages within t → AreOwnAt within t (owns_in pages i (signs_before t after))
-own_at pages i within bold italic finished after h k f = tt
-own_at pages i within bold italic (sign (letter c) t) after h k f = own_at pages i within bold italic t after h k.1 f
-own_at pages i within bold italic (sign (thing x) t) after h k f =
-    (one_own pages i within x h.0 k.0 f.0, own_at pages (i + length (expanded_page pages x.source).outer) within bold italic t after h.1 k.1 f.1)
-own_at pages i within bold italic (styled kind opening closing inside t) after h k f =
+pub own_at : (pages : Pages) (i : ℕ) (bold italic : Bool) (t : StyledContent) (after : List ContentSign) → AreStyledThings pages (signs_before t after)
+    → AreNested bold italic t → NestsWithin pages bold italic t → AreOwnAt bold italic t (owns_in pages i (signs_before t after))
+own_at pages i bold italic finished after h k f = tt
+own_at pages i bold italic (sign (letter c) t) after h k f = own_at pages i bold italic t after h k.1 f
+own_at pages i bold italic (sign (thing x) t) after h k f =
+    (one_own pages i bold italic x h.0 k.0 f.0, own_at pages (i + length (expanded_page pages x.source).outer) bold italic t after h.1 k.1 f.1)
+own_at pages i bold italic (styled kind opening closing inside t) after h k f =
     let signs : List ContentSign = signs_before t after in
     let closes : List ContentSign = delimiter kind closing ∷ signs in
     let j : ℕ = i + length (expanded_page pages (mark_source kind)).outer in
     let m : ℕ = calls_behind pages j inside + length (expanded_page pages (mark_source kind)).outer in (
-      own_at pages j true (kind || bold) (not kind || italic) inside closes h.1 k.1 f.0,
-      subst (λ (os : List (List Item)). AreOwnAt within t (owns_left os)) (sym (past_as pages j inside closes))
-          (own_at pages m within bold italic t after (each_behind pages inside closes h.1).1 k.2 f.1),
+      own_at pages j (kind || bold) (not kind || italic) inside closes h.1 k.1 f.0,
+      subst (λ (os : List (List Item)). AreOwnAt bold italic t (owns_left os)) (sym (past_as pages j inside closes))
+          (own_at pages m bold italic t after (each_behind pages inside closes h.1).1 k.2 f.1),
     )
 
 -- ---- so it is such a content
@@ -237,7 +233,7 @@ styled_in pages i s t h = record {
   of_block = h.of_block;
   characters = h.characters;
   given = all_given pages i (signs_in t) h.each;
-  own = own_at pages i false false false t [] h.each h.nested h.free;
+  own = own_at pages i false false t [] h.each h.nested h.free;
   nested = h.nested;
   meet = h.meet i;
   some = h.some;
@@ -250,7 +246,7 @@ heading_in pages i s t h = record {
   one_line = h.one_line;
   characters = h.characters;
   given = all_given pages i (signs_in t) h.each;
-  own = own_at pages i false false false t [] h.each h.nested h.free;
+  own = own_at pages i false false t [] h.each h.nested h.free;
   nested = h.nested;
   meet = h.meet i;
   end_seen = all_seen pages i (signs_in t) h.end_seen;
