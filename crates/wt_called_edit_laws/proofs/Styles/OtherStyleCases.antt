@@ -1,5 +1,5 @@
--- Worked case: the page's paragraph `'''x{{t}}z'''y`, where `Template:T` is `''b''`: a call in bold that gives italic, what is sent for it, and what is written.
-use Rattle.std.proofs.Common.{◌≡◌, ◌==◌, inl, inr, ℕ, zero, suc, false, true, Some, None, List, [], ◌∷◌, refl, sym, ap, ◌∙◌, subst}
+-- Worked case: the page's paragraph `'''x{{t}}z'''y`, where `Template:T` is `''b''`: a call in bold that gives italic, what is sent for it, and what it makes.
+use Rattle.std.proofs.Common.{◌≡◌, ◌<◌, ◌==◌, inl, inr, ℕ, zero, suc, false, true, Some, None, List, [], ◌∷◌, arith, refl, sym, ap, ◌∙◌, subst}
 use Rattle.std.specs.Prelude.{codes, if◌then◌else◌}
 use Rattle.std.specs.Str.{bytes_eq, is_utf8, chars, IsUtf8}
 use Rattle.std.specs.Str.Lossy.{utf8_valid_len}
@@ -65,16 +65,17 @@ use Rattle.wt_beside_laws.specs.Called.{GivesGroup}
 use Rattle.wt_beside_laws.specs.Given.{IsGroup}
 use Rattle.wt_beside_laws.specs.Shown.{parts_shown_at}
 use Rattle.wt_beside_laws.specs.StyledCalls.{PartsNestIn}
-use Rattle.wt_called_edit_laws.specs.CalledEdits.{page_things, ShowsAsGiven}
+use Rattle.wt_called_edit_laws.specs.CalledEdits.{page_things, ShowsAsGiven, MakesContentIn}
 use Rattle.wt_called_edit_laws.specs.InPieces.{AreInPieces}
-use Rattle.wt_called_edit_laws.specs.PageThings.{ArePageThings}
+use Rattle.wt_called_edit_laws.specs.PageThings.{ArePageThings, thing_sources}
 use Rattle.wt_called_edit_laws.specs.SentAsIs.{as_sent}
 use Rattle.wt_called_edit_laws.specs.Settled.{settled}
-use Rattle.wt_called_edit_laws.specs.StyledCallEdits.{GivesNested, IsStyledCallEdit}
+use Rattle.wt_called_edit_laws.specs.StyledCallEdits.{AreNodesBeside, AreOwnThings, GivesNested, IsBesideStyles, IsNodeBeside, IsStyledCallEdit, NestedGroups}
 use Rattle.wt_called_edit_laws.specs.WrittenAnew.{StayButForOthers}
 use Rattle.wt_called_edit_laws.proofs.Cells.SentAsIs.{stands_as_sent}
 use Rattle.wt_called_edit_laws.proofs.Written.Cases.{call_sealed, call_settles, call_utf8}
 use Rattle.wt_called_edit_laws.specs.Written.{IsOwnPart, IsReadThing}
+use Rattle.wt_called_edit_laws.proofs.Styles.Making.{styles_make}
 use Rattle.wt_called_edit_laws.proofs.Written.Joined.{calm_written}
 
 abbrev pub source : List ℕ
@@ -242,8 +243,75 @@ gives_nested = λ i.
     subst (λ (q : List ℕ). PartsNestIn true false (line_parts (part_items a_style i q))) (sym tree_is)
     (subst (λ (xs : List Item). PartsNestIn true false (line_parts xs)) (sym (gives_items i)) (italic_in_bold i))
 
+not_true : false ≡ true → ⊥
+not_true e = cc
+
+groups_nested : NestedGroups a_style true false (children_of bold_node)
+unfolding label_at context_parts chunks segments loose_segments tiles shapes closes tile_at link_or_url link_at ext_link_at bare_url_at scheme_len
+    tag_tile tag_at switch_at children with_styles style_tree_of toggles_of toggle_at opens_tag closes_tag place_of since next bold_ends_later effect_on
+    is_bold_outside_at turn_at
+groups_nested = (
+  ((λ e. absurd (not_true e)), tt),
+  (
+    ((λ e. gives_nested), (((λ e. absurd (not_true e)), (((λ e. absurd (not_true e)), tt), tt)), tt)),
+    (((λ e. absurd (not_true e)), tt), tt),
+  ),
+)
+
+a_letter : IsUtf8 (codes "x") × IsUtf8 (codes "z") × IsUtf8 (codes "y")
+unfolding encode
+a_letter = ((codes "x", (refl, refl)), (codes "z", (refl, refl)), (codes "y", (refl, refl)))
+
+x_beside : IsNodeBeside a_style (nth 0 (children_of bold_node))
+unfolding label_at context_parts chunks segments loose_segments tiles shapes closes tile_at link_or_url link_at ext_link_at bare_url_at scheme_len
+    tag_tile tag_at switch_at children with_styles style_tree_of toggles_of toggle_at opens_tag closes_tag place_of since next bold_ends_later effect_on
+    is_bold_outside_at turn_at
+x_beside = (a_letter.0, record { inline = refl; shows = λ n. absurd n })
+
+group_beside : IsNodeBeside a_style group
+unfolding label_at context_parts chunks segments loose_segments tiles shapes closes tile_at link_or_url link_at ext_link_at bare_url_at scheme_len
+    tag_tile tag_at switch_at children with_styles style_tree_of toggles_of toggle_at opens_tag closes_tag place_of since next bold_ends_later effect_on
+    is_bold_outside_at turn_at
+group_beside = record { inline = refl; shows = λ n. group_shows }
+
+z_beside : IsNodeBeside a_style (nth 2 (children_of bold_node))
+unfolding label_at context_parts chunks segments loose_segments tiles shapes closes tile_at link_or_url link_at ext_link_at bare_url_at scheme_len
+    tag_tile tag_at switch_at children with_styles style_tree_of toggles_of toggle_at opens_tag closes_tag place_of since next bold_ends_later effect_on
+    is_bold_outside_at turn_at
+z_beside = (a_letter.1, record { inline = refl; shows = λ n. absurd n })
+
+y_beside : IsNodeBeside a_style (nth 1 (children_of block))
+unfolding label_at context_parts chunks segments loose_segments tiles shapes closes tile_at link_or_url link_at ext_link_at bare_url_at scheme_len
+    tag_tile tag_at switch_at children with_styles style_tree_of toggles_of toggle_at opens_tag closes_tag place_of since next bold_ends_later effect_on
+    is_bold_outside_at turn_at
+y_beside = (a_letter.2, record { inline = refl; shows = λ n. absurd n })
+
+are_nodes : AreNodesBeside a_style (children_of block)
+unfolding label_at context_parts chunks segments loose_segments tiles shapes closes tile_at link_or_url link_at ext_link_at bare_url_at scheme_len
+    tag_tile tag_at switch_at children with_styles style_tree_of toggles_of toggle_at opens_tag closes_tag place_of since next bold_ends_later effect_on
+    is_bold_outside_at turn_at
+are_nodes = ((refl, groups_nested, (x_beside, (group_beside, (z_beside, tt)))), (y_beside, tt))
+
 not_zero : (n : ℕ) → (n == 0) ≡ false → n ≡ 0 → ⊥
 not_zero n f e = let no : false ≡ true = sym f ∙ ap (λ (m : ℕ). m == 0) e in cc
+
+pub in_class : IsBesideStyles a_style a_paragraph source block
+unfolding label_at context_parts chunks segments loose_segments tiles shapes closes tile_at link_or_url link_at ext_link_at bare_url_at scheme_len
+    tag_tile tag_at switch_at children with_styles style_tree_of toggles_of toggle_at opens_tag closes_tag place_of since next bold_ends_later effect_on
+    is_bold_outside_at turn_at
+    chars encode
+in_class = record {
+  pieces = pieces;
+  is = refl;
+  parts = in_pieces;
+  numbers = ((not_zero (label bold_node).id refl, (tt, (not_zero (label group).id refl, (tt, tt)))), (tt, tt));
+  children = are_nodes;
+  nest = ((refl, ((λ e. refl), (tt, ((λ e. refl), tt)))), ((λ e. refl), tt));
+  things = subst (ArePageThings a_style) (sym things_are) of_page;
+  own = subst (AreOwnThings a_style) (sym things_are) (record { some = λ e. absurd (cc); unquoted = tt; gives = inl refl }, tt);
+  among = subst (λ (ts : List Thing). StayButForOthers a_style pieces (thing_sources ts)) (sym things_are) among;
+  round = tt;
+}
 
 -- ---- what is sent
 
@@ -278,6 +346,12 @@ edit_of = record {
   free = (tt, tt);
   fits = inr (inl refl);
 }
+
+-- So it is taken, and makes the new block with its group in bold.
+pub makes : MakesContentIn a_style a_paragraph source block a_label edit
+makes =
+    let some : 0 < 1 = omega arith in
+    styles_make a_style a_paragraph source block a_label edit 1 0 0 (a_call ∷ []) some (ap block_by (sym (items_are 0))) in_class edit_of
 
 -- `<nowiki/>` is put between the new texts and the call
 pub written_is : new_content a_paragraph block a_label edit ≡ codes "'''w<nowiki/>{{t}}<nowiki/>u'''v"
