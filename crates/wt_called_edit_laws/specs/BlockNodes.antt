@@ -87,7 +87,7 @@ pub record ShowsItself (t : Tree) : Type 0 where
 abbrev pub ShowsAlone : Pages → Label → Trees → Type 0
 ShowsAlone pages l ts = ((is_group l.kind ≡ true) × ShowsAsGiven pages (tree l ts)) ⊎ ShowsItself (tree l ts)
 
--- a text, whose characters are UTF-8, or a separator; bold or italic without attributes, in which calls give none; or such a node
+-- a text, whose characters are UTF-8, or a separator; bold or italic without attributes, in which what calls give nests; or such a node
 abbrev pub IsNodeBy : InlineForm → Pages → Label → Trees → Type 0 → Type 0
 IsNodeBy inline.Nothing pages l ts inside = IsUnbraced (flat (tree l ts))
 IsNodeBy inline.Characters pages l ts inside = IsUtf8 l.shown × IsUnbraced (flat (tree l ts))
